@@ -1,0 +1,34 @@
+-- Tests that compute, and what they say. For every crate. Assumes nothing.
+use mathlib.Core.Path.{_≡_, refl, sym, _∙_}
+use mathlib.Core.Bool.{Bool, true, false, _&&_}
+use Prim.Native.Nat.{ℕ, _≤_}
+use native.Mathlib.Omega.{arith}
+use lib.Dec.{leb}
+use borrow.Author.Tests.{leb-true}
+use Rattle.calculus.specs.Number.{within}
+
+-- a case on a test that keeps its equation
+pub data Way (b : Bool) : Type 0 where
+  is : b ≡ true → Way b
+  isnt : b ≡ false → Way b
+
+pub way : (b : Bool) → Way b
+way true = is refl
+way false = isnt refl
+
+-- what a call ensures of its result, joined with what is known of that result
+pub join : {A : Type 0} {a b t : A} → a ≡ b → a ≡ t → b ≡ t
+join e f = sym e ∙ f
+
+pub never : {A : Type 0} → false ≡ true → A
+never e = let z : _≡_ {A = ℕ} 0 1 = cc in absurd (omega arith)
+
+-- both sides of a conjunction
+pub both : (a b : Bool) → (a && b) ≡ true → (a ≡ true) × (b ≡ true)
+both true b e = (refl, e)
+both false b e = never e
+
+pub within-bounds : (low high n : ℕ) → within low high n ≡ true → (low ≤ n) × (n ≤ high)
+within-bounds low high n e =
+    let h = both (leb low n) (leb n high) e in
+    (leb-true low n (h .0), leb-true n high (h .1))

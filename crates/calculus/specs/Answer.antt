@@ -1,0 +1,32 @@
+-- Document 01's number of each refusal and each loss. Assumes nothing.
+use Prim.Native.Nat.{ℕ}
+use Rattle.calculus.specs.declared.answer.Refusal as refusal
+use Rattle.calculus.specs.declared.answer.Refusal.the-variants.{Short, Unreadable, Range, Double, Unknown, Late, Taken, Idle, Same, Gateway, Spent, NoItem, Waiting, Full}
+use Rattle.calculus.specs.declared.answer.Loss as loss
+use Rattle.calculus.specs.declared.answer.Loss.the-variants.{Unprotected, HopLimit, NoRoute, NoTunnel, WrongTunnel, Exhausted}
+
+-- the table's "No."
+abbrev pub refusalNumber : refusal.Refusal → ℕ
+refusalNumber Short = 0
+refusalNumber Unreadable = 1
+refusalNumber Range = 2
+refusalNumber Double = 3
+refusalNumber Unknown = 4
+refusalNumber Late = 5
+refusalNumber Taken = 6
+refusalNumber Idle = 7
+refusalNumber Same = 8
+refusalNumber Gateway = 9
+refusalNumber Spent = 10
+refusalNumber NoItem = 11
+refusalNumber Waiting = 12
+refusalNumber Full = 13
+
+-- the number after "lost" in the rules of a step
+abbrev pub lossNumber : loss.Loss → ℕ
+lossNumber Unprotected = 1
+lossNumber HopLimit = 2
+lossNumber NoRoute = 3
+lossNumber NoTunnel = 4
+lossNumber WrongTunnel = 5
+lossNumber Exhausted = 6

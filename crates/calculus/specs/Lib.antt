@@ -1,0 +1,3 @@
+-- What the contracts of `calculus` cite.
+pub mod Number
+pub mod Answer

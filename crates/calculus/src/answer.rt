@@ -1,0 +1,98 @@
+// What a call answers: document 01's answers, its refusals and its losses.
+use crate::number::ItemNumber;
+use crate::number::Spi;
+ghost use mathlib.Core.Path.{_≡_};
+ghost use Rattle.calculus.specs.Answer.{lossNumber, refusalNumber};
+
+// Why a call is refused, in the order of document 01's table.
+pub enum Refusal {
+    Short,
+    Unreadable,
+    Range,
+    Double,
+    Unknown,
+    Late,
+    Taken,
+    Idle,
+    Same,
+    Gateway,
+    Spent,
+    NoItem,
+    Waiting,
+    Full,
+}
+
+impl Refusal {
+    // Its number in document 01's table.
+    pub fn number(self) -> u8
+        ensures { λ r. ⌜ r ≡ refusalNumber self ⌝ }
+    {
+        match self {
+            Refusal::Short => 0,
+            Refusal::Unreadable => 1,
+            Refusal::Range => 2,
+            Refusal::Double => 3,
+            Refusal::Unknown => 4,
+            Refusal::Late => 5,
+            Refusal::Taken => 6,
+            Refusal::Idle => 7,
+            Refusal::Same => 8,
+            Refusal::Gateway => 9,
+            Refusal::Spent => 10,
+            Refusal::NoItem => 11,
+            Refusal::Waiting => 12,
+            Refusal::Full => 13,
+        }
+    }
+}
+
+// Why a packet is lost.
+pub enum Loss {
+    // bare Data or Done at a gateway
+    Unprotected,
+    HopLimit,
+    NoRoute,
+    // no association, or no in row of this session, for its header
+    NoTunnel,
+    // not through the tunnel of the matching in row
+    WrongTunnel,
+    // 8 establishments begun
+    Exhausted,
+}
+
+impl Loss {
+    // Its number in document 01's rules.
+    pub fn number(self) -> u8
+        ensures { λ r. ⌜ r ≡ lossNumber self ⌝ }
+    {
+        match self {
+            Loss::Unprotected => 1,
+            Loss::HopLimit => 2,
+            Loss::NoRoute => 3,
+            Loss::NoTunnel => 4,
+            Loss::WrongTunnel => 5,
+            Loss::Exhausted => 6,
+        }
+    }
+}
+
+// What a call answers. An association's line has its direction, out or in, and its users.
+pub enum Answer {
+    Ok,
+    Made(ItemNumber),
+    MadeTwo(ItemNumber, ItemNumber),
+    Lost(Loss),
+    Denied,
+    Opened,
+    Delivered(u32),
+    Closed,
+    No(Refusal),
+    Assoc {
+        node: u8,
+        out: bool,
+        peer: u8,
+        spi: Spi,
+        users: u16,
+    },
+    End,
+}

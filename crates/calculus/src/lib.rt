@@ -1,0 +1,7 @@
+// The types of the tunnel calculus, the SPI of a pair of nodes, and the numbers of refusals and losses.
+pub mod answer;
+pub mod network;
+pub mod number;
+pub mod packet;
+pub mod request;
+pub mod session;

@@ -1,0 +1,44 @@
+// Session numbers, item numbers and SPIs: three spaces, so three types.
+ghost use mathlib.Core.Path.{_≡_};
+ghost use Rattle.calculus.specs.Number as spec;
+
+// Whether `n` is `low` to `high`.
+pub fn within(n: u64, low: u64, high: u64) -> bool
+    ensures { λ r. ⌜ r ≡ spec.within low high n ⌝ }
+{
+    if low <= n { n <= high } else { false }
+}
+
+// Whether `n` is a node's number.
+pub fn is_node(n: u64) -> bool
+    ensures { λ r. ⌜ r ≡ spec.isNode n ⌝ }
+{
+    within(n, 1, 32)
+}
+
+// A set-up session, 1 to 8.
+pub struct SessionNumber(pub u8);
+
+// An item of one session, 1 to 1,000,000.
+pub struct ItemNumber(pub u32);
+
+// A security parameters index. 0 to 255 are reserved.
+pub struct Spi(pub u16);
+
+impl Spi {
+    pub const FIRST: u16 = 256;
+
+    pub const STRIDE: u16 = 32;
+
+    // The SPI of what `node` receives from `peer`; the reserved SPI 0 unless both are 1 to 32.
+    pub fn between(node: u8, peer: u8) -> Spi
+        ensures { λ r. ⌜ r ≡ spec.spi node peer ⌝ }
+    {
+        if is_node(node as u64) {
+            if is_node(peer as u64) {
+                return Spi(Spi::FIRST + Spi::STRIDE * (node as u16 - 1) + (peer as u16 - 1));
+            }
+        }
+        Spi(0)
+    }
+}

@@ -1,0 +1,29 @@
+// A call's request, its numbers in range.
+use crate::network::Kind;
+use crate::number::ItemNumber;
+use crate::number::SessionNumber;
+
+// Which end of a session sends.
+pub enum Sender {
+    Client,
+    Server,
+}
+
+// A node's credentials stand beside its request: an enum holds no array.
+pub enum Request {
+    Node(u8, Kind),
+    Route {
+        at: u8,
+        destination: u8,
+        next: u8,
+    },
+    Open {
+        session: SessionNumber,
+        client: u8,
+        server: u8,
+    },
+    Step(SessionNumber, ItemNumber),
+    Send(SessionNumber, Sender, u32),
+    Close(SessionNumber),
+    Show,
+}

@@ -1,0 +1,32 @@
+// A session and its rows.
+
+// How far a set-up has come.
+pub enum Stage {
+    Unused,
+    SettingUp,
+    Open,
+    Denied,
+}
+
+// A set-up session between its client and its server (document 01's ends c and d), with how many establishments it has
+// begun, how many rows it has, and the last item number that it was issued, 0 before the first.
+pub struct Session {
+    pub stage: Stage,
+    pub client: u8,
+    pub server: u8,
+    pub begun: u8,
+    pub rows: u8,
+    pub last: u32,
+}
+
+// A row (a policy entry): packets from `source` to `destination`, its filter, go through the tunnel between `node` and
+// `peer`, out of the node or, where `out` is false, into it. Its session is the one whose table holds it; `establishment`
+// is document 01's e.
+pub struct Row {
+    pub node: u8,
+    pub out: bool,
+    pub source: u8,
+    pub destination: u8,
+    pub peer: u8,
+    pub establishment: u8,
+}
