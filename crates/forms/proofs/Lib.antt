@@ -1,0 +1,16 @@
+-- Laws that belong to no one function, and the worked examples.
+pub mod Decimal
+pub mod Ways
+pub mod Words
+pub mod Numbers
+pub mod Lists
+pub mod NodeForm
+pub mod Exact
+pub mod Loops
+pub mod Parts
+pub mod Held
+pub mod Tallies
+pub mod Sets
+pub mod Widths
+pub mod Splits
+pub mod Cases

@@ -1,0 +1,185 @@
+// The forms of up to three numbers, from behind their word.
+use crate::list::ListRead;
+use crate::list::read_list;
+use crate::read::Reading;
+use crate::reading::asks;
+use crate::reading::refused;
+use calculus::answer::Refusal;
+use calculus::number::ItemNumber;
+use calculus::number::SessionNumber;
+use calculus::number::is_node;
+use calculus::number::within;
+use calculus::request::Request;
+use calculus::request::Sender;
+ghost use mathlib.Core.Path.{_≡_};
+ghost use mathlib.Core.Bool.{_&&_};
+ghost use Prim.Native.Nat.{_≤_};
+ghost use Rattle.forms.specs.Read as spec;
+ghost use Rattle.forms.specs.Request.{isSession, senderOf, asked};
+ghost use Rattle.forms.specs.Held.{fieldsIn};
+
+// Whether as many numbers as were asked for were read, and these are the first of `values`.
+pub struct Fields {
+    pub ok: bool,
+    pub values: [u64; 3],
+}
+
+// The numbers that `s` is, to its end, where there are `count`.
+pub fn read_fields(s: &[u8], count: usize) -> Fields
+    requires { ⌜ count ≤ 3 ⌝ }
+    ensures { λ r. ⌜ fieldsIn count r ≡ spec.fields 10 count (now (s .entry)) ⌝ }
+{
+    let mut values = [0u64; 3];
+    match read_list(s, &mut values) {
+        ListRead::Numbers { count: found, used } => Fields {
+            ok: both(found == count, used == s.len()),
+            values,
+        },
+        ListRead::Broken => Fields { ok: false, values },
+    }
+}
+
+// Both of two tests.
+pub fn both(a: bool, b: bool) -> bool
+    ensures { λ r. ⌜ r ≡ (a && b) ⌝ }
+{
+    if a { b } else { false }
+}
+
+// Whether `n` is a session's number.
+fn is_session(n: u64) -> bool
+    ensures { λ r. ⌜ r ≡ isSession n ⌝ }
+{
+    within(n, 1, 8)
+}
+
+// Which end sends: 0 the client, 1 the server.
+fn sender(which: u64) -> Sender
+    ensures { λ r. ⌜ r ≡ senderOf which ⌝ }
+{
+    if which == 0 {
+        Sender::Client
+    } else {
+        Sender::Server
+    }
+}
+
+// What `(route` asks with these numbers; refusal 1 where there are not three, 2 where one is out of range. So for the others.
+pub fn route_of(f: Fields) -> Reading
+    ensures { λ r. ⌜ r ≡ asked (spec.formWith spec.routeWith (fieldsIn 3 f)) ⌝ }
+{
+    let ok = f.ok;
+    if ok {
+        let values = f.values;
+        let at = values[0];
+        let destination = values[1];
+        let next = values[2];
+        if both(is_node(at), both(is_node(destination), is_node(next))) {
+            asks(Request::Route {
+                at: at as u8,
+                destination: destination as u8,
+                next: next as u8,
+            })
+        } else {
+            refused(Refusal::Range)
+        }
+    } else {
+        refused(Refusal::Unreadable)
+    }
+}
+
+// What `(open` asks.
+pub fn open_of(f: Fields) -> Reading
+    ensures { λ r. ⌜ r ≡ asked (spec.formWith spec.openWith (fieldsIn 3 f)) ⌝ }
+{
+    let ok = f.ok;
+    if ok {
+        let values = f.values;
+        let session = values[0];
+        let client = values[1];
+        let server = values[2];
+        if both(is_session(session), both(is_node(client), is_node(server))) {
+            asks(Request::Open {
+                session: SessionNumber(session as u8),
+                client: client as u8,
+                server: server as u8,
+            })
+        } else {
+            refused(Refusal::Range)
+        }
+    } else {
+        refused(Refusal::Unreadable)
+    }
+}
+
+// What `(step` asks.
+pub fn step_of(f: Fields) -> Reading
+    ensures { λ r. ⌜ r ≡ asked (spec.formWith spec.stepWith (fieldsIn 2 f)) ⌝ }
+{
+    let ok = f.ok;
+    if ok {
+        let values = f.values;
+        let session = values[0];
+        let item = values[1];
+        if both(is_session(session), within(item, 1, 1000000)) {
+            asks(Request::Step(SessionNumber(session as u8), ItemNumber(item as u32)))
+        } else {
+            refused(Refusal::Range)
+        }
+    } else {
+        refused(Refusal::Unreadable)
+    }
+}
+
+// What `(send` asks.
+pub fn send_of(f: Fields) -> Reading
+    ensures { λ r. ⌜ r ≡ asked (spec.formWith spec.sendWith (fieldsIn 3 f)) ⌝ }
+{
+    let ok = f.ok;
+    if ok {
+        let values = f.values;
+        let session = values[0];
+        let which = values[1];
+        let tag = values[2];
+        if both(
+            is_session(session),
+            both(within(which, 0, 1), within(tag, 0, 4294967295)),
+        ) {
+            asks(Request::Send(SessionNumber(session as u8), sender(which), tag as u32))
+        } else {
+            refused(Refusal::Range)
+        }
+    } else {
+        refused(Refusal::Unreadable)
+    }
+}
+
+// What `(close` asks.
+pub fn close_of(f: Fields) -> Reading
+    ensures { λ r. ⌜ r ≡ asked (spec.formWith spec.closeWith (fieldsIn 1 f)) ⌝ }
+{
+    let ok = f.ok;
+    if ok {
+        let values = f.values;
+        let session = values[0];
+        if is_session(session) {
+            asks(Request::Close(SessionNumber(session as u8)))
+        } else {
+            refused(Refusal::Range)
+        }
+    } else {
+        refused(Refusal::Unreadable)
+    }
+}
+
+// What `(show` asks.
+pub fn show_of(f: Fields) -> Reading
+    ensures { λ r. ⌜ r ≡ asked (spec.formWith spec.showWith (fieldsIn 0 f)) ⌝ }
+{
+    let ok = f.ok;
+    if ok {
+        asks(Request::Show)
+    } else {
+        refused(Refusal::Unreadable)
+    }
+}
