@@ -1,0 +1,170 @@
+// Writes what each line of the input asks, then one answer of each kind.
+use calculus::answer::Answer;
+use calculus::answer::Loss;
+use calculus::answer::Refusal;
+use calculus::network::Kind;
+use calculus::number::ItemNumber;
+use calculus::number::Spi;
+use calculus::request::Request;
+use calculus::request::Sender;
+use forms::line::Line;
+use forms::line::next_line;
+use forms::read::Parsed;
+use forms::read::Reading;
+use forms::read::read;
+use forms::write::Written;
+use forms::write::write;
+use libc::STDIN_FILENO;
+use libc::STDOUT_FILENO;
+
+fn put(word: &[u8]) {
+    io::write_all(STDOUT_FILENO, word);
+}
+
+fn put_number(n: u64) {
+    put(b" ");
+    io::print_decimal(STDOUT_FILENO, n);
+}
+
+// An answer at place 4 of forty dots, and all forty.
+fn put_answer(answer: Answer) {
+    let mut out = [b'.'; 40];
+    match write(&mut out, 4, answer) {
+        Written::Next(_) => put(&out),
+        Written::Full => put(b"full"),
+    }
+    put(b"\n");
+}
+
+fn put_credentials(name: &[u8], set: [bool; 64]) {
+    put(name);
+    let mut i: usize = 0;
+    while i < 64 {
+        if set[i] {
+            put_number(i as u64);
+        }
+        i += 1;
+    }
+    put(b")");
+}
+
+fn put_node(node: u8, kind: Kind) {
+    put(b"node");
+    put_number(node as u64);
+    match kind {
+        Kind::Host => put(b" host"),
+        Kind::Gateway => put(b" gate"),
+    }
+}
+
+fn put_send(session: u8, sender: Sender, tag: u32) {
+    put(b"send");
+    put_number(session as u64);
+    match sender {
+        Sender::Client => put(b" client"),
+        Sender::Server => put(b" server"),
+    }
+    put_number(tag as u64);
+}
+
+fn put_three(word: &[u8], a: u8, b: u8, c: u8) {
+    put(word);
+    put_number(a as u64);
+    put_number(b as u64);
+    put_number(c as u64);
+}
+
+fn put_request(request: Request) {
+    match request {
+        Request::Node(node, kind) => put_node(node, kind),
+        Request::Route {
+            at,
+            destination,
+            next,
+        } => put_three(b"route", at, destination, next),
+        Request::Open {
+            session,
+            client,
+            server,
+        } => put_three(b"open", session.0, client, server),
+        Request::Step(session, item) => {
+            put(b"step");
+            put_number(session.0 as u64);
+            put_number(item.0 as u64);
+        }
+        Request::Send(session, sender, tag) => put_send(session.0, sender, tag),
+        Request::Close(session) => {
+            put(b"close");
+            put_number(session.0 as u64);
+        }
+        Request::Show => put(b"show"),
+    }
+}
+
+// A line, and what it asks.
+fn put_line(line: &[u8]) {
+    put(line);
+    put(b" -> ");
+    let reading = read(line);
+    let parsed = reading.parsed;
+    match parsed {
+        Parsed::Asks(request) => {
+            let has = reading.has;
+            let needs = reading.needs;
+            put_request(request);
+            put_credentials(b" (has", has);
+            put_credentials(b" (needs", needs);
+        }
+        Parsed::Refused(refusal) => {
+            put(b"refusal");
+            put_number(refusal.number() as u64);
+        }
+    }
+    put(b"\n");
+}
+
+fn put_answers() {
+    put_answer(Answer::Ok);
+    put_answer(Answer::Made(ItemNumber(3)));
+    put_answer(Answer::MadeTwo(ItemNumber(999999), ItemNumber(1000000)));
+    put_answer(Answer::Lost(Loss::HopLimit));
+    put_answer(Answer::Denied);
+    put_answer(Answer::Opened);
+    put_answer(Answer::Delivered(4294967295));
+    put_answer(Answer::Closed);
+    put_answer(Answer::No(Refusal::Full));
+    put_answer(Answer::Assoc {
+        node: 1,
+        out: false,
+        peer: 2,
+        spi: Spi::between(1, 2),
+        users: 1,
+    });
+    put_answer(Answer::Assoc {
+        node: 32,
+        out: true,
+        peer: 31,
+        spi: Spi::between(31, 32),
+        users: 65535,
+    });
+    put_answer(Answer::End);
+}
+
+fn main() {
+    let mut input = [0u8; 8192];
+    let n = io::read_full(STDIN_FILENO, &mut input);
+    let text = &input[..n];
+    let mut from = 0;
+    loop {
+        match next_line(text, from) {
+            Line::Found { stop, next } => {
+                put_line(&text[from..stop]);
+                from = next;
+            }
+            Line::End => {
+                break;
+            }
+        }
+    }
+    put_answers();
+}
