@@ -12,6 +12,6 @@ within low high n = leb low n && leb n high
 abbrev pub isNode : ℕ → Bool
 isNode = within 1 32
 
--- "The SPI of what a receives from b"; 0, which is reserved, unless both are nodes
+-- "The SPI of what a receives from b", of In(a, b) and of Out(b, a); 0, which is reserved, unless both are nodes
 abbrev pub spi : ℕ → ℕ → Spi
 spi a b = record { 0 = cond (isNode a && isNode b) (256 + 32 * (a - 1) + (b - 1)) 0 }

@@ -1,4 +1,4 @@
-// Writes what each line of the input asks, then one answer of each kind.
+// Writes what each line of the input asks, then answers of each kind, with every loss and every refusal.
 use calculus::answer::Answer;
 use calculus::answer::Loss;
 use calculus::answer::Refusal;
@@ -123,16 +123,40 @@ fn put_line(line: &[u8]) {
     put(b"\n");
 }
 
+fn put_refusals() {
+    put_answer(Answer::No(Refusal::Short));
+    put_answer(Answer::No(Refusal::Unreadable));
+    put_answer(Answer::No(Refusal::Range));
+    put_answer(Answer::No(Refusal::Double));
+    put_answer(Answer::No(Refusal::Unknown));
+    put_answer(Answer::No(Refusal::Late));
+    put_answer(Answer::No(Refusal::Taken));
+    put_answer(Answer::No(Refusal::Idle));
+    put_answer(Answer::No(Refusal::Same));
+    put_answer(Answer::No(Refusal::Gateway));
+    put_answer(Answer::No(Refusal::Spent));
+    put_answer(Answer::No(Refusal::NoItem));
+    put_answer(Answer::No(Refusal::Waiting));
+    put_answer(Answer::No(Refusal::Full));
+}
+
+fn put_losses() {
+    put_answer(Answer::Lost(Loss::Unprotected));
+    put_answer(Answer::Lost(Loss::HopLimit));
+    put_answer(Answer::Lost(Loss::NoRoute));
+    put_answer(Answer::Lost(Loss::NoTunnel));
+    put_answer(Answer::Lost(Loss::WrongTunnel));
+    put_answer(Answer::Lost(Loss::Exhausted));
+}
+
 fn put_answers() {
     put_answer(Answer::Ok);
     put_answer(Answer::Made(ItemNumber(3)));
     put_answer(Answer::MadeTwo(ItemNumber(999999), ItemNumber(1000000)));
-    put_answer(Answer::Lost(Loss::HopLimit));
     put_answer(Answer::Denied);
     put_answer(Answer::Opened);
     put_answer(Answer::Delivered(4294967295));
     put_answer(Answer::Closed);
-    put_answer(Answer::No(Refusal::Full));
     put_answer(Answer::Assoc {
         node: 1,
         out: false,
@@ -148,6 +172,8 @@ fn put_answers() {
         users: 65535,
     });
     put_answer(Answer::End);
+    put_losses();
+    put_refusals();
 }
 
 fn main() {

@@ -69,6 +69,7 @@ abbrev pub formWith : (List ℕ → Form) → Option (List ℕ) → Option Form
 formWith f (some ns) = some (f ns)
 formWith f none = none
 
+-- each form, with its numbers
 abbrev pub routeWith : List ℕ → Form
 routeWith ns = route (getD ns 0 0) (getD ns 1 0) (getD ns 2 0)
 
@@ -91,32 +92,34 @@ showWith ns = show
 abbrev pub isText : List ℕ → List ℕ → Bool
 isText w l = starts w l && eqb (length l) (length w)
 
--- a node's form from behind its `(needs`
+-- a node's form from behind its `(needs`, by the list there
 abbrev pub needsOf : ℕ → Kind → List ℕ → List ℕ → Listed → Option Form
 needsOf a k has l (listed needs j) = cond (isText (bytes ")") (drop j l)) (some (node a k has needs)) none
 needsOf a k has l broken = none
 
--- from behind its `(has`
+-- a node's form from behind its `(has`, by the list there
 abbrev pub hasOf : ℕ → ℕ → ℕ → Kind → List ℕ → Listed → Option Form
 hasOf most room a k l (listed has j) =
     let r = drop 7 (drop j l) in
     cond (starts (bytes " (needs") (drop j l)) (needsOf a k has r (list most room 0 r)) none
 hasOf most room a k l broken = none
 
+-- a node's form from behind its `(has`
 unfoldable pub hasAt : ℕ → ℕ → ℕ → Kind → List ℕ → Option Form
 hasAt most room a k l = hasOf most room a k l (list most room 0 l)
 
--- from behind its number
+-- a node's form from behind its number
 unfoldable pub kindAt : ℕ → ℕ → ℕ → List ℕ → Option Form
 kindAt most room a l =
     cond (starts (bytes " host (has") l) (hasAt most room a Host (drop 10 l))
     (cond (starts (bytes " gate (has") l) (hasAt most room a Gateway (drop 10 l)) none)
 
--- from behind its `(node `
+-- a node's form from behind its `(node `, by the number there
 abbrev pub nodeOf : ℕ → ℕ → List ℕ → Number → Option Form
 nodeOf most room l (Found a k) = kindAt most room a (drop k l)
 nodeOf most room l Missing = none
 
+-- a node's form from behind its `(node `
 unfoldable pub nodeAt : ℕ → ℕ → List ℕ → Option Form
 nodeAt most room l = nodeOf most room l (number most l)
 

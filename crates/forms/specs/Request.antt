@@ -38,6 +38,7 @@ abbrev pub holding : List Bool → List ℕ → List Bool
 holding s [] = s
 holding s (n ∷ ns) = holding (set s n true) ns
 
+-- the empty set
 abbrev pub noCredentials : List Bool
 noCredentials = replicate 64 false
 

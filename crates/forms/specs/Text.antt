@@ -20,6 +20,7 @@ unfoldable pub listText : List ℕ → List ℕ
 listText [] = bytes ")"
 listText (n ∷ ns) = bytes " " ++ (decimal n ++ listText ns)
 
+-- a node's kind, behind its number
 abbrev pub kindText : Kind → List ℕ
 kindText Host = bytes " host"
 kindText Gateway = bytes " gate"
