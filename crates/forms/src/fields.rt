@@ -13,7 +13,6 @@ use calculus::request::Request;
 use calculus::request::Sender;
 ghost use mathlib.Core.Path.{_≡_};
 ghost use mathlib.Core.Bool.{_&&_};
-ghost use Prim.Native.Nat.{_≤_};
 ghost use Rattle.forms.specs.Read as spec;
 ghost use Rattle.forms.specs.Request.{isSession, senderOf, asked};
 ghost use Rattle.forms.specs.Held.{fieldsIn};
@@ -26,7 +25,6 @@ pub struct Fields {
 
 // The numbers that `s` is, to its end, where there are `count`.
 pub fn read_fields(s: &[u8], count: usize) -> Fields
-    requires { ⌜ count ≤ 3 ⌝ }
     ensures { λ r. ⌜ fieldsIn count r ≡ spec.fields 10 count (now (s .entry)) ⌝ }
 {
     let mut values = [0u64; 3];

@@ -3,7 +3,6 @@ mod fields;
 pub mod line;
 mod list;
 mod node;
-mod put;
 pub mod read;
 mod reading;
 mod scan;
