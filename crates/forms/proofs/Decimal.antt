@@ -40,7 +40,7 @@ decimal-more a d h g =
 
 -- ---- how many digits
 
-pub width-small : (n : ℕ) → n < 10 → length (decimal n) ≡ 1
+width-small : (n : ℕ) → n < 10 → length (decimal n) ≡ 1
 width-small n h = rw (decimal-small n h)
 
 pub width-large : (n : ℕ) → 10 ≤ n → length (decimal n) ≡ length (decimal (n / 10)) + 1

@@ -34,7 +34,7 @@ all-three a b c e =
 -- ---- the numbers of a form
 
 -- three places hold a list of up to three numbers
-pub firsts-take : (n : ℕ) (v : List ℕ) → length v ≡ 3 → firsts n v ≡ take n v
+firsts-take : (n : ℕ) (v : List ℕ) → length v ≡ 3 → firsts n v ≡ take n v
 firsts-take n v h = ap (take n) (firsts-all v 3 h (omega arith))
 
 module _ {l before after : List ℕ} {r : listRead.ListRead} (f : Filled l before r after) where

@@ -52,8 +52,6 @@ byte-past s at b h = rw (drop-of-length-le s h)
 -- the i digits before place i have the value v
 pub record Scanned (l : List ℕ) (first v i : ℕ) : Type 0 where
   pub inside : i ≤ length l
-  pub some : 0 < i
-  pub few : i ≤ 10
   pub small : v < 10 ^ i
   pub same : scan 10 first 1 (drop 1 l) ≡ scan 10 v i (drop i l)
 
@@ -64,8 +62,6 @@ module _ {l : List ℕ} {first v i : ℕ} (m : Scanned l first v i) where
       let b = within-bounds 48 57 (getD l i 0) d in
       record {
         inside = omega arith;
-        some = omega arith;
-        few = omega arith;
         small = rw (add-one, pow-suc) (omega arith);
         same = m .same ∙ rw (drop-cons l i 0 h, d, lt-ltb i 10 g) (rw add-one);
       }

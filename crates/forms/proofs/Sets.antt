@@ -14,7 +14,7 @@ pub drop-next : (l : List ℕ) (i : ℕ) → i < length l → drop i l ≡ getD 
 drop-next l i h = rw (add-one, drop-cons l i 0)
 
 -- a text in two parts is put part by part
-pub sets-append : (l : List ℕ) (at : ℕ) (bs cs : List ℕ) → sets l at (bs ++ cs) ≡ sets (sets l at bs) (at + length bs) cs
+sets-append : (l : List ℕ) (at : ℕ) (bs cs : List ℕ) → sets l at (bs ++ cs) ≡ sets (sets l at bs) (at + length bs) cs
 sets-append l at [] cs = rw add-zero
 sets-append l at (b ∷ bs) cs =
     let e : suc at + length bs ≡ at + suc (length bs) = omega arith in

@@ -40,7 +40,7 @@ passed-all {l} {from} {i} m h =
     let w : lineLength (drop i l) ≡ 0 = rw (drop-of-length-le l h) in
     omega (arith, m .same, w)
 
-pub lineLength-inside : (l : List ℕ) → lineLength l ≤ length l
+lineLength-inside : (l : List ℕ) → lineLength l ≤ length l
 unfolding lineLength
 lineLength-inside [] = omega arith
 lineLength-inside (c ∷ l) = go (eqb c 10) (lineLength-inside l)

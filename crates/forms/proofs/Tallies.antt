@@ -81,7 +81,7 @@ tallied-set t (n ∷ ns) e =
 abbrev made : ℕ → Kind → List Bool → List Bool → Reading
 made a k x y = record { parsed = Asks (Node a k); has = x; needs = y }
 
-pub node-reading : (a : ℕ) (k : Kind) (has needs : List ℕ) → reading (node a k has needs) ≡ nodeReading a k (tallied fresh has) (tallied fresh needs)
+node-reading : (a : ℕ) (k : Kind) (has needs : List ℕ) → reading (node a k has needs) ≡ nodeReading a k (tallied fresh has) (tallied fresh needs)
 node-reading a k has needs =
     rw (tallied-rising fresh has refl, tallied-rising fresh needs refl) (go (isNode a) (way (rising 0 has)) (way (rising 0 needs)))
   where

@@ -19,7 +19,7 @@ abbrev μ-loop : tie.MeasureT-loop
 μ-loop s first value₀ i₀ value i = length s - i
 
 loop-holds : tie.Need-loop-holds Inv-loop μ-loop
-loop-holds c = record { inside = omega arith; some = omega arith; few = omega arith; small = omega arith; same = refl }
+loop-holds c = record { inside = omega arith; small = omega arith; same = refl }
 
 mul-value : tie.Need-mul-value Inv-loop μ-loop
 mul-value c =
