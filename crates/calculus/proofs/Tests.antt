@@ -20,8 +20,12 @@ way false = isnt refl
 pub join : {A : Type 0} {a b t : A} → a ≡ b → a ≡ t → b ≡ t
 join e f = sym e ∙ f
 
+-- two constructors are not equal: what `cc` shows of them proves anything
+pub clash : {A : Type 0} → _≡_ {A = ℕ} 0 1 → A
+clash z = absurd (omega arith)
+
 pub never : {A : Type 0} → false ≡ true → A
-never e = let z : _≡_ {A = ℕ} 0 1 = cc in absurd (omega arith)
+never e = clash cc
 
 -- both sides of a conjunction
 pub both : (a b : Bool) → (a && b) ≡ true → (a ≡ true) × (b ≡ true)

@@ -78,8 +78,9 @@ module _ {l : List ℕ} {first v i : ℕ} (m : Scanned l first v i) where
   unfolding scan
   scanned-all h = sym (m .same ∙ rw (drop-of-length-le l h))
 
-  pub scanned-small : i < 10 → v < 1000000000
-  scanned-small g = omega (arith, pow-le-pow-right {n = 10} (omega arith) {i = i} {j = 9} (omega arith))
+  -- so one more digit fits a u64
+  pub scanned-small : i < 19 → v < 10 ^ 18
+  scanned-small g = omega (arith, pow-le-pow-right {n = 10} (omega arith) {i = i} {j = 18} (omega arith))
 
 -- ---- the first digit
 

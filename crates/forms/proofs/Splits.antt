@@ -9,7 +9,7 @@ use borrow.Author.Tests.{eq-eqb, ne-eqb, ltb-true, ltb-false}
 use lib.Dec.{ltb, eqb}
 use lib.ListN.{length, getD, take, drop, length-drop, drop-of-length-le}
 use lib.Seq.{drop-drop}
-use Rattle.calculus.proofs.Tests.{Way, is, isnt, way}
+use Rattle.calculus.proofs.Tests.{Way, is, isnt, way, clash}
 use Rattle.forms.specs.declared.line.Line.the-variants.{Found, End}
 use Rattle.forms.specs.Line.{lineLength, lineTo, nextLine, withFirst, lines, linesBy, SplitsLines}
 use Rattle.forms.proofs.Sets.{drop-next}
@@ -65,8 +65,7 @@ line-inside l from stop next = go (way (ltb from (length l))) (lineLength (drop 
         → cond (ltb from (length l)) (lineTo l (from + k)) End ≡ Found stop next → Inside l from stop next
     go (isnt e) k h q =
         let q′ : End ≡ Found stop next = rw e at q in
-        let z : _≡_ {A = ℕ} 0 1 = cc in
-        absurd (omega arith)
+        clash cc
     go (is e) k h q = found (way (ltb (from + k) (length l)))
       where
         q′ : lineTo l (from + k) ≡ Found stop next

@@ -45,15 +45,15 @@ tallying-all {ns} {t} {i} m h = sym (m .same ∙ rw (drop-of-length-le ns h))
 abbrev added : Tally → ℕ → Tally
 added t n = record { set = set (t .set) n true; least = n + 1; rising = t .rising }
 
-abbrev spoilt : Tally → Tally
-spoilt t = record { set = t .set; least = t .least; rising = false }
+abbrev outOfOrder : Tally → Tally
+outOfOrder t = record { set = t .set; least = t .least; rising = false }
 
-spoilt-stays : (t : Tally) (ns : List ℕ) → t .rising ≡ false → (tallied t ns) .rising ≡ false
+outOfOrder-stays : (t : Tally) (ns : List ℕ) → t .rising ≡ false → (tallied t ns) .rising ≡ false
 unfolding add
-spoilt-stays t [] e = e
-spoilt-stays t (n ∷ ns) e = spoilt-stays (add t n) ns (go (within (t .least) 63 n))
+outOfOrder-stays t [] e = e
+outOfOrder-stays t (n ∷ ns) e = outOfOrder-stays (add t n) ns (go (within (t .least) 63 n))
   where
-    go : (b : Bool) → (cond b (added t n) (spoilt t)) .rising ≡ false
+    go : (b : Bool) → (cond b (added t n) (outOfOrder t)) .rising ≡ false
     go true = e
     go false = refl
 
@@ -62,9 +62,9 @@ unfolding add
 tallied-rising t [] e = e
 tallied-rising t (n ∷ ns) e = go (within (t .least) 63 n) (tallied-rising (added t n) ns e)
   where
-    go : (b : Bool) → (tallied (added t n) ns) .rising ≡ rising (n + 1) ns → (tallied (cond b (added t n) (spoilt t)) ns) .rising ≡ (b && rising (n + 1) ns)
+    go : (b : Bool) → (tallied (added t n) ns) .rising ≡ rising (n + 1) ns → (tallied (cond b (added t n) (outOfOrder t)) ns) .rising ≡ (b && rising (n + 1) ns)
     go true ih = ih
-    go false ih = spoilt-stays (spoilt t) ns refl
+    go false ih = outOfOrder-stays (outOfOrder t) ns refl
 
 add-in-range : (t : Tally) (n : ℕ) → within (t .least) 63 n ≡ true → add t n ≡ added t n
 unfolding add

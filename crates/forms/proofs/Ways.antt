@@ -4,7 +4,7 @@ use mathlib.Core.Bool.{Bool, true, false, cond}
 use mathlib.Core.List.{List}
 use mathlib.Core.Option.{none, some}
 use Prim.Native.Nat.{ℕ}
-use native.Mathlib.Omega.{arith}
+use Rattle.calculus.proofs.Tests.{clash}
 use Rattle.forms.specs.declared.scan.Number.{Number}
 use Rattle.forms.specs.declared.scan.Number.the-variants.{Found, Missing}
 use Rattle.forms.specs.Read.{Listed, listed, broken}
@@ -30,10 +30,10 @@ some-same P {a} {b} h e = let q : a ≡ b = cc in rw (← q) h
 
 -- a result is not the lack of one
 pub nothing : {A P : Type 0} {a : A} → none ≡ some a → P
-nothing e = let z : _≡_ {A = ℕ} 0 1 = cc in absurd (omega arith)
+nothing e = clash cc
 
 pub missing : {P : Type 0} {n j : ℕ} → Missing ≡ Found n j → P
-missing e = let z : _≡_ {A = ℕ} 0 1 = cc in absurd (omega arith)
+missing e = clash cc
 
 pub unlisted : {P : Type 0} {ns : List ℕ} {j : ℕ} → broken ≡ listed ns j → P
-unlisted e = let z : _≡_ {A = ℕ} 0 1 = cc in absurd (omega arith)
+unlisted e = clash cc

@@ -37,7 +37,7 @@ pub fn read_fields(s: &[u8], count: usize) -> Fields
     }
 }
 
-// Both of two tests.
+// Both of two tests. A `&&` would lose what each of them says where its ways meet.
 pub fn both(a: bool, b: bool) -> bool
     ensures { λ r. ⌜ r ≡ (a && b) ⌝ }
 {

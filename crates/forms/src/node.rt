@@ -46,7 +46,7 @@ fn no_credentials() -> Tally
     }
 }
 
-// One credential more. Out of range or out of order, it spoils the tally.
+// One credential more; out of range or out of order, it is not taken, and the tally is no longer rising.
 fn with_credential(t: Tally, n: u64) -> Tally
     ensures { λ r. ⌜ r ≡ held.add t n ⌝ }
 {

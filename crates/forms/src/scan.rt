@@ -47,7 +47,7 @@ fn is_digit(c: u8) -> bool
     if 48 <= c { c <= 57 } else { false }
 }
 
-// A byte's value.
+// A byte's value: by a call, it needs no bound at the place that asks.
 fn wide(c: u8) -> u64
     ensures { λ r. ⌜ r ≡ c ⌝ }
 {

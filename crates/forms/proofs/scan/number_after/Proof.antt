@@ -24,7 +24,7 @@ loop-holds c = record { inside = omega arith; small = omega arith; same = refl }
 mul-value : tie.Need-mul-value Inv-loop μ-loop
 mul-value c =
     let c₅ = c .before .before .before .before .before in
-    omega (arith, scanned-small (c₅ .loop .inv) (c .if2 .taken))
+    omega (arith, scanned-small (c₅ .loop .inv) (omega arith))
 
 sub-value : tie.Need-sub-value Inv-loop μ-loop
 sub-value c =
@@ -38,7 +38,7 @@ add-value c =
     let c₃ = c .before .before .before in
     let c₆ = c₃ .before .before .before in
     let c₈ = c₆ .before .before in
-    omega (arith, c .wide .ensures, within-bounds 48 57 (getD (c₈ .args .s .now) (c₆ .loop .i) 0) (join (c₃ .is-digit .ensures) (c .before .before .if1 .taken)), scanned-small (c₆ .loop .inv) (c .before .if2 .taken))
+    omega (arith, c .wide .ensures, within-bounds 48 57 (getD (c₈ .args .s .now) (c₆ .loop .i) 0) (join (c₃ .is-digit .ensures) (c .before .before .if1 .taken)), scanned-small (c₆ .loop .inv) (omega arith))
 
 loop-again : tie.Need-loop-again Inv-loop μ-loop
 loop-again c =
