@@ -19,3 +19,9 @@ pub struct Network {
     pub nodes: [Node; 32],
     pub routes: [u8; 1024],
 }
+
+// What the routes give from one node for another.
+pub enum NextHop {
+    Found(u8),
+    Missing,
+}

@@ -31,10 +31,10 @@ pub enum Side {
     Initiator,
 }
 
-// The tunnel that a packet came through (document 01's q in `in`): none, or from that peer.
-pub enum Origin {
+// The tunnel that a packet goes or came through (document 01's q in `in`): none, or the one with that peer.
+pub enum Via {
     Untunnelled,
-    From(u8),
+    Peer(u8),
 }
 
 // What a session has pending, as document 01 names it. `Free` is a place with no item.
@@ -56,7 +56,7 @@ pub enum Item {
     In {
         node: u8,
         packet: Packet,
-        origin: Origin,
+        via: Via,
     },
     Est {
         node: u8,
