@@ -1,0 +1,48 @@
+-- What holds of every element of a list, and the front of a list after a run of stores. Assumes nothing.
+use mathlib.Core.Path.{_≡_, ap, _∙_}
+use mathlib.Core.List.{List, [], _∷_, _++_}
+use Prim.Native.Nat.{ℕ, zero, suc, _+_, _≤_}
+use native.Mathlib.Omega.{arith}
+use lib.ListN.{length, getD, set, take, drop, replicate, length-append}
+use Rattle.model.specs.Lists.{All}
+use lib.Seq.{sets, sets-eq, take-at, length-take-le}
+
+module _ {A : Type 0} (P : A → Type 0) where
+  pub all-of : ((x : A) → P x) → (l : List A) → All P l
+  all-of h [] = tt
+  all-of h (x ∷ l) = (h x, all-of h l)
+
+  pub all-set : (l : List A) (i : ℕ) (x : A) → All P l → P x → All P (set l i x)
+  all-set [] i x h k = tt
+  all-set (y ∷ l) zero x h k = (k, h .1)
+  all-set (y ∷ l) (suc i) x h k = (h .0, all-set l i x (h .1) k)
+
+  pub all-get : (l : List A) (i : ℕ) (d : A) → All P l → P d → P (getD l i d)
+  all-get [] i d h k = k
+  all-get (y ∷ l) zero d h k = h .0
+  all-get (y ∷ l) (suc i) d h k = all-get l i d (h .1) k
+
+  pub all-append : (l m : List A) → All P l → All P m → All P (l ++ m)
+  all-append [] m h k = k
+  all-append (y ∷ l) m h k = (h .0, all-append l m (h .1) k)
+
+  pub all-take : (n : ℕ) (l : List A) → All P l → All P (take n l)
+  all-take zero l h = tt
+  all-take (suc n) [] h = tt
+  all-take (suc n) (y ∷ l) h = (h .0, all-take n l (h .1))
+
+  pub all-drop : (n : ℕ) (l : List A) → All P l → All P (drop n l)
+  all-drop zero l h = h
+  all-drop (suc n) [] h = tt
+  all-drop (suc n) (y ∷ l) h = all-drop n l (h .1)
+
+  pub all-replicate : (n : ℕ) (x : A) → P x → All P (replicate n x)
+  all-replicate zero x k = tt
+  all-replicate (suc n) x k = (k, all-replicate n x k)
+
+-- the front, and then what was stored after it
+pub take-sets : {A : Type 0} (l vs : List A) (n : ℕ) → n + length vs ≤ length l → take (n + length vs) (sets l n vs) ≡ take n l ++ vs
+take-sets {A} l vs n h =
+    ap (λ (m : List A). take (n + length vs) m) (sets-eq vs l n h)
+    ∙ take-at (take n l ++ vs) (drop (n + length vs) l) (n + length vs)
+    (length-append (take n l) vs ∙ ap (λ (k : ℕ). k + length vs) (length-take-le n l (omega arith)))

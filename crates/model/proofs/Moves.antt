@@ -1,0 +1,101 @@
+-- What a move leaves: a whole part, and rows that change as it says. Assumes nothing.
+use mathlib.Core.Path.{_≡_}
+use mathlib.Core.Bool.{Bool}
+use mathlib.Core.List.{List, [], _++_, append-nil}
+use Prim.Native.Nat.{ℕ, _+_, _-_, _≤_, _<_}
+use native.Mathlib.Omega.{arith}
+use native.Mathlib.Decide.{decLt}
+use native.Mathlib.Nat.{add-zero}
+use lib.ListN.{length, take, length-take}
+use lib.Seq.{sets, length-sets}
+use Rattle.calculus.specs.declared.effect.Added.{Added}
+use Rattle.calculus.specs.declared.effect.Effect.{Effect}
+use Rattle.calculus.specs.declared.network.Network.{Network}
+use Rattle.calculus.specs.declared.packet.Item.{Item}
+use Rattle.calculus.specs.declared.request.Sender.{Sender}
+use Rattle.calculus.specs.declared.session.Row.{Row}
+use Rattle.calculus.specs.declared.session.Stage.{Stage}
+use Rattle.calculus.specs.declared.state.Part.{Part}
+use Rattle.model.specs.Row.{held, howMany}
+use Rattle.model.specs.State.{placed, addedRows, sessionAfter, applied}
+use Rattle.model.specs.Requests.{Change, Move, refuse, moved, noRows, nextNumber, withItem, opening, openMove, stepped, stepAt, stepMove, sending, sendMove, closing, closeMove}
+use Rattle.model.proofs.Checks.{checked-either}
+use Rattle.model.proofs.Parts.{Whole}
+use Rattle.model.proofs.Lists.{take-sets}
+use Rattle.model.proofs.Users.{many-append}
+use Rattle.model.proofs.Weights.{length-put, length-after}
+
+-- ---- rows held
+
+placed-length : (n : ℕ) (f : Added) → length (placed n f) ≤ 32 - n
+placed-length n f = simp length-take (omega arith)
+
+none-placed : {A : Type 0} (n : ℕ) (l : List A) → 32 ≤ n → take (32 - n) l ≡ []
+none-placed n l h = let e : 32 - n ≡ 0 = omega arith in rw e
+
+held-placed : (rows : List Row) → length rows ≡ 32 → (n : ℕ) (f : Added)
+    → take (n + length (placed n f)) (sets rows n (placed n f)) ≡ take n rows ++ placed n f
+held-placed rows h n f = go (decLt n 32)
+  where
+    go : Dec (n < 32) → take (n + length (placed n f)) (sets rows n (placed n f)) ≡ take n rows ++ placed n f
+    go (yes p) = take-sets rows (placed n f) n (omega (arith, placed-length n f, h))
+    go (no p) = rw (none-placed n (addedRows f) (omega arith), add-zero, append-nil)
+
+pub held-applied : (t : Part) → Whole t → (at : ℕ) (f : Effect) → held (applied t at f) ≡ held t ++ placed (t .session .rows) (f .added)
+unfolding applied sessionAfter
+held-applied t h at f = held-placed (t .rows) (h .rows) (t .session .rows) (f .added)
+
+pub applied-whole : (t : Part) → Whole t → (at : ℕ) (f : Effect) → Whole (applied t at f)
+unfolding applied
+applied-whole t h at f =
+    omega (
+      arith,
+      h,
+      length-after (t .items) (t .session .last) at f,
+      length-sets (t .rows) (t .session .rows) (placed (t .session .rows) (f .added)),
+    )
+
+-- ---- moves
+
+-- the part t′ is left of t, with the change c
+pub record Fair (t t′ : Part) (c : Change) : Type 0 where
+  pub whole : Whole t′
+  pub rows : (out : Bool) (a q : ℕ)
+      → howMany out a q (held t′) + howMany out a q (c .went) ≡ howMany out a q (held t) + howMany out a q (c .came)
+  pub went : (out : Bool) (a q : ℕ) → howMany out a q (c .went) ≤ howMany out a q (held t)
+  pub came : length (c .came) ≤ 32
+
+abbrev pub FairMove : Part → Move → Type 0
+FairMove t (refuse r) = Unit
+FairMove t (moved a t′ c) = Fair t t′ c
+
+module _ (t : Part) (h : Whole t) where
+  fair-stepped : (at : ℕ) (f : Effect) → FairMove t (stepped t at f)
+  unfolding stepped howMany
+  fair-stepped at f =
+      record {
+        whole = applied-whole t h at f;
+        rows = λ out a q. rw (held-applied t h at f) (omega (arith, many-append out a q (held t) (placed (t .session .rows) (f .added))));
+        went = λ out a q. omega arith;
+        came = omega (arith, placed-length (t .session .rows) (f .added));
+      }
+
+  pub fair-step : (n : Network) (standing : ℕ → ℕ → Bool) (k : ℕ) → FairMove t (stepMove n standing k t)
+  unfolding stepMove stepAt
+  fair-step n standing k = checked-either (FairMove t) refuse (λ r. tt) _ (λ e. fair-stepped _ _)
+
+  fair-item : (g : Stage) (c d : ℕ) (i : Item) (opens : Bool) → Fair t (withItem t g c d i) (noRows opens)
+  unfolding howMany
+  fair-item g c d i opens = omega (arith, h, length-put (t .items) (nextNumber t) i)
+
+  pub fair-open : (n : Network) (c d : ℕ) → FairMove t (openMove n c d t)
+  unfolding openMove opening
+  fair-open n c d = checked-either (FairMove t) refuse (λ r. tt) _ (λ e. fair-item _ _ _ _ _)
+
+  pub fair-send : (w : Sender) (tag : ℕ) → FairMove t (sendMove w tag t)
+  unfolding sendMove sending
+  fair-send w tag = checked-either (FairMove t) refuse (λ r. tt) _ (λ e. fair-item _ _ _ _ _)
+
+  pub fair-close : FairMove t (closeMove t)
+  unfolding closeMove closing
+  fair-close = checked-either (FairMove t) refuse (λ r. tt) _ (λ e. omega arith)

@@ -1,0 +1,214 @@
+-- Every rule writes items and rows that name nodes only, and no Disc but on a wire. Assumes nothing.
+use mathlib.Core.Path.{_≡_, refl, sym, _∙_}
+use mathlib.Core.Bool.{Bool, true, false, not, _&&_, or-true}
+use mathlib.Core.List.{List, [], _∷_}
+use Prim.Native.Nat.{ℕ}
+use lib.Dec.{leb, eqb}
+use borrow.Author.Tests.{eqb-true, eqb-false, eq-eqb, ne-eqb}
+use Rattle.calculus.proofs.Tests.{both, never}
+use Rattle.calculus.specs.Number.{isNode}
+use Rattle.calculus.specs.declared.effect.Outcome.{Outcome}
+use Rattle.calculus.specs.declared.effect.Outcome.the-variants.{Wrote, WroteTwo, Lost, Denied, Opened, Delivered}
+use Rattle.calculus.specs.declared.effect.Effect.{Effect}
+use Rattle.calculus.specs.declared.network.Network.{Network}
+use Rattle.calculus.specs.declared.network.NextHop.{NextHop}
+use Rattle.calculus.specs.declared.network.NextHop.the-variants.{Found, Missing}
+use Rattle.calculus.specs.declared.packet.Payload.{Payload}
+use Rattle.calculus.specs.declared.packet.Payload.the-variants.{Req, Rep, Disc, Done, Data}
+use Rattle.calculus.specs.declared.packet.Header.{Header}
+use Rattle.calculus.specs.declared.packet.Header.the-variants.{Bare, Tunnel}
+use Rattle.calculus.specs.declared.packet.Packet.{Packet}
+use Rattle.calculus.specs.declared.packet.Via.{Via}
+use Rattle.calculus.specs.declared.packet.Via.the-variants.{Untunnelled, Peer}
+use Rattle.calculus.specs.declared.packet.Side.{Side}
+use Rattle.calculus.specs.declared.packet.Side.the-variants.{Responder, Initiator}
+use Rattle.calculus.specs.declared.packet.Item.{Item}
+use Rattle.calculus.specs.declared.packet.Item.the-variants.{Free, Wire, Out, Up, In, Est, Auth, Grant, Ack, Dwait, Ewait}
+use Rattle.calculus.specs.declared.session.Row.{Row}
+use Rattle.calculus.specs.declared.session.Session.{Session}
+use Rattle.calculus.specs.declared.state.Part.{Part}
+use Rattle.model.specs.Network.{isGateway, nextHop, hasAllNeeded}
+use Rattle.model.specs.Packet.{bare, headedTo, target}
+use Rattle.model.specs.Row.{held, fits, newer, newest, admits, areNodes}
+use Rattle.model.specs.Rules.{discovers, lastPoint, unprotected, onward, wireRule, headerTo, outRule, headerStands, upWith, upRule, agrees, received, inRule, estRule, authRule, grantRule, ackRule, rule}
+use Rattle.model.specs.State.{addedRows}
+use Rattle.model.specs.SetUp.{isDisc}
+use Rattle.model.proofs.Checks.{either}
+use Rattle.model.specs.Lists.{fold, All}
+use Rattle.model.proofs.Users.{are-nodes}
+use Rattle.model.proofs.Nodes.{Node, LeadsToNode, Routed, routed}
+
+-- ---- what an item may name, v being the server
+
+abbrev HeaderNamed : Header → Type 0
+HeaderNamed Bare = Unit
+HeaderNamed (Tunnel from to spi) = Node from × Node to
+
+abbrev ViaNamed : Via → Type 0
+ViaNamed Untunnelled = Unit
+ViaNamed (Peer q) = Node q
+
+pub record PacketNamed (p : Packet) : Type 0 where
+  source : Node (p .source)
+  destination : Node (p .destination)
+  header : HeaderNamed (p .header)
+
+-- a packet with no header between nodes
+pub bare-named : (a b : ℕ) (y : Payload) → Node a → Node b → PacketNamed (bare a b y)
+bare-named a b y h k = record { source = h; destination = k; header = tt }
+
+-- on a wire a Disc is bare, goes to the server, and its last point is a node before that
+abbrev DiscNamed : ℕ → Payload → ℕ → Header → Type 0
+DiscNamed v y d h = isDisc y ≡ true → Node (lastPoint y) × (lastPoint y ≡ v → ⊥) × (d ≡ v) × (h ≡ Bare)
+
+abbrev NoDisc : Payload → Type 0
+NoDisc y = isDisc y ≡ false
+
+abbrev pub Named : ℕ → Item → Type 0
+Named v Free = Unit
+Named v (Wire a p h) = Node a × PacketNamed p × DiscNamed v (p .payload) (p .destination) (p .header)
+Named v (Out a p) = Node a × PacketNamed p × NoDisc (p .payload)
+Named v (Up a p) = Node a × PacketNamed p × NoDisc (p .payload)
+Named v (In a p q) = Node a × PacketNamed p × NoDisc (p .payload) × ViaNamed q
+Named v (Est a b e) = Node a × Node b
+Named v (Auth a q e side) = Node a × Node q
+Named v (Grant a q e side) = Node a × Node q
+Named v (Ack a e) = Node a
+Named v (Dwait a) = Unit
+Named v (Ewait a e) = Unit
+
+abbrev pub RowNamed : Row → Type 0
+RowNamed r = areNodes (r .node) (r .peer) ≡ true
+
+-- of each item written
+abbrev pub Written : (Item → Type 0) → Outcome → Type 0
+Written P (Wrote i) = P i
+Written P (WroteTwo i j) = P i × P j
+Written P (Lost k) = Unit
+Written P Denied = Unit
+Written P Opened = Unit
+Written P (Delivered tag) = Unit
+
+abbrev EffectNamed : ℕ → Effect → Type 0
+EffectNamed v f = Written (Named v) (f .outcome) × All RowNamed (addedRows (f .added))
+
+-- ---- the rules
+
+discovers-disc : (gateway : Bool) (v a : ℕ) (y : Payload) → discovers gateway v a y ≡ true → isDisc y ≡ true
+discovers-disc gateway v a (Req e) k = never k
+discovers-disc gateway v a (Rep e) k = never k
+discovers-disc gateway v a (Disc p) k = refl
+discovers-disc gateway v a Done k = never k
+discovers-disc gateway v a (Data tag) k = never k
+
+-- no Disc reaches up: at the server it is discovered
+arrives : (v : ℕ) (gateway : Bool) (a : ℕ) (y : Payload) (d : ℕ) (h : Header) → discovers gateway v a y ≡ false → DiscNamed v y d h
+    → a ≡ headedTo h d → NoDisc y
+arrives v gateway a (Req e) d h k o t = refl
+arrives v gateway a (Rep e) d h k o t = refl
+arrives v gateway a (Disc p) d h k o t =
+    let x = o refl in
+    let b : headedTo h d ≡ d = rw (x .3) in
+    let e : a ≡ v = t ∙ b ∙ x .2 in
+    let n : eqb a p ≡ false = ne-eqb a p (λ w. x .1 (sym w ∙ e)) in
+    sym (rw (n, eq-eqb a v e) (or-true gateway)) ∙ k
+arrives v gateway a Done d h k o t = refl
+arrives v gateway a (Data tag) d h k o t = refl
+
+onward-named : (v : ℕ) (next : NextHop) (a : ℕ) (p : Packet) (h : ℕ) → LeadsToNode next → Named v (Wire a p h) → EffectNamed v (onward next p h)
+onward-named v Missing a p h k o = (tt, tt)
+onward-named v (Found next) a p h k o = ((k, o .1, o .2), tt)
+
+wire-named : (gateway : Bool) (next : NextHop) (s : Session) (a : ℕ) (p : Packet) (h : ℕ) → LeadsToNode next → Named (s .server) (Wire a p h)
+    → EffectNamed (s .server) (wireRule gateway next s a p h)
+unfolding wireRule
+wire-named gateway next s a p h k o =
+    let v = s .server in
+    let P = EffectNamed v in
+    either P (discovers gateway v a (p .payload))
+    (λ e. either P (leb 8 (s .begun)) (λ e. (tt, tt))
+    (λ w. ((tt, (o .0, o .2 (discovers-disc gateway v a (p .payload) e) .0)), tt)))
+    (λ e. either P (eqb a (target p))
+    (λ w. ((o .0, o .1, arrives v gateway a (p .payload) (p .destination) (p .header) e (o .2) (eqb-true a (target p) w)), tt))
+    (λ e. either P (unprotected gateway p) (λ e. (tt, tt))
+    (λ e. either P (eqb h 0) (λ e. (tt, tt)) (λ e. onward-named v next a p h k o))))
+
+-- the peer of the newest row that fits
+newest-named : (out : Bool) (a : ℕ) (p : Packet) (rows : List Row) (best : Via) → All RowNamed rows → ViaNamed best
+    → ViaNamed (fold (newer out a p) best rows)
+newest-named out a p [] best h k = k
+newest-named out a p (r ∷ rows) best h k =
+    newest-named out a p rows (newer out a p best r) (h .1)
+    (either ViaNamed (fits out a p r) (λ e. both (isNode (r .node)) (isNode (r .peer)) (h .0) .1) (λ e. k))
+
+header-named : (a : ℕ) (q : Via) → Node a → ViaNamed q → HeaderNamed (headerTo a q)
+header-named a Untunnelled h k = tt
+header-named a (Peer q) h k = (h, k)
+
+out-named : (v : ℕ) (rows : List Row) (a : ℕ) (p : Packet) → All RowNamed rows → Named v (Out a p) → EffectNamed v (outRule rows a p)
+unfolding outRule
+out-named v rows a p h o =
+    let q = newest rows true a p in (
+      (
+        o .0,
+        record {
+          source = o .1 .source;
+          destination = o .1 .destination;
+          header = header-named a q (o .0) (newest-named true a p rows Untunnelled h tt);
+        },
+        λ e. never (sym (o .2) ∙ e),
+      ),
+      tt,
+    )
+
+up-named : (v : ℕ) (x : Header) (inStands : Bool) (rows : List Row) (a : ℕ) (p : Packet) → HeaderNamed x → Named v (Up a p)
+    → EffectNamed v (upWith x inStands rows a p)
+up-named v Bare inStands rows a p k o = ((o .0, o .1, o .2, tt), tt)
+up-named v (Tunnel q to i) inStands rows a p k o =
+    either (EffectNamed v) (inStands && admits rows a q)
+    (λ e. ((o .0, record { source = o .1 .source; destination = o .1 .destination; header = tt }, o .2, k .0), tt))
+    (λ e. (tt, tt))
+
+received-named : (v a b : ℕ) (y : Payload) → Node a → Node b → EffectNamed v (received a b y)
+received-named v a b (Req e) h k = ((h, k), tt)
+received-named v a b (Rep e) h k = ((h, k), tt)
+received-named v a b (Disc p) h k = (tt, tt)
+received-named v a b Done h k = (tt, tt)
+received-named v a b (Data tag) h k = (tt, tt)
+
+in-named : (v : ℕ) (rows : List Row) (a : ℕ) (p : Packet) (q : Via) → Named v (In a p q) → EffectNamed v (inRule rows a p q)
+unfolding inRule
+in-named v rows a p q o =
+    let P = EffectNamed v in
+    either P (not (agrees rows a p q)) (λ e. (tt, tt))
+    (λ e. either P (not (eqb (p .destination) a)) (λ e. ((o .0, o .1, o .2), tt))
+    (λ e. received-named v a (p .source) (p .payload) (o .0) (o .1 .source)))
+
+grant-named : (v : ℕ) (s : Session) (a q e : ℕ) (side : Side) → Node a → Node q → EffectNamed v (grantRule s a q e side)
+unfolding grantRule
+grant-named v s a q e Responder h k = let n = are-nodes a q h k in ((h, bare-named a q (Rep e) h k, refl), (n, (n, tt)))
+grant-named v s a q e Initiator h k = let n = are-nodes a q h k in (h, (n, (n, tt)))
+
+ack-named : (s : Session) (a : ℕ) → Node (s .client) → Node (s .server) → Node a → EffectNamed (s .server) (ackRule s a)
+unfolding ackRule
+ack-named s a c d h = (
+  either (Named (s .server)) (eqb a (s .server)) (λ e. (h, bare-named (s .server) (s .client) Done d c, refl))
+      (λ e. (h, bare-named (s .client) (s .server) (Disc a) c d, λ k. (h, eqb-false a (s .server) e, refl, refl))),
+  tt,
+)
+
+module _ (n : Network) (hn : Routed n) (standing : ℕ → ℕ → Bool) (t : Part) where
+  pub rule-named : All RowNamed (held t) → Node (t .session .client) → Node (t .session .server) → (i : Item) → Named (t .session .server) i
+      → EffectNamed (t .session .server) (rule n standing t i)
+  unfolding rule upRule estRule authRule
+  rule-named h c d Free o = (tt, tt)
+  rule-named h c d (Wire a p x) o = wire-named (isGateway n a) (nextHop n a (target p)) (t .session) a p x (routed n hn a (target p)) o
+  rule-named h c d (Out a p) o = out-named (t .session .server) (held t) a p h o
+  rule-named h c d (Up a p) o = up-named (t .session .server) (p .header) (headerStands standing a (p .header)) (held t) a p (o .1 .header) o
+  rule-named h c d (In a p q) o = in-named (t .session .server) (held t) a p q o
+  rule-named h c d (Est a b e) o = (((o .0, bare-named a b (Req e) (o .0) (o .1), refl), tt), tt)
+  rule-named h c d (Auth a q e side) o = either (EffectNamed (t .session .server)) (hasAllNeeded n a q) (λ e. (o, tt)) (λ e. (tt, tt))
+  rule-named h c d (Grant a q e side) o = grant-named (t .session .server) (t .session) a q e side (o .0) (o .1)
+  rule-named h c d (Ack a e) o = ack-named (t .session) a c d o
+  rule-named h c d (Dwait a) o = (tt, tt)
+  rule-named h c d (Ewait a e) o = (tt, tt)

@@ -1,0 +1,83 @@
+-- The numbers that a session's answers carry are its next ones, with none left out and none twice. Assumes nothing.
+use mathlib.Core.Path.{_≡_, refl, ap}
+use mathlib.Core.List.{List, [], _∷_, _++_}
+use Prim.Native.Nat.{ℕ, zero, suc, _+_}
+use native.Mathlib.Nat.{zero-add, add-zero}
+use native.Mathlib.Omega.{arith}
+use lib.Dec.{ltb}
+use Rattle.calculus.specs.declared.effect.Outcome.{Outcome}
+use Rattle.calculus.specs.declared.effect.Outcome.the-variants.{Wrote, WroteTwo, Lost, Denied, Opened, Delivered}
+use Rattle.calculus.specs.declared.effect.Effect.{Effect}
+use Rattle.calculus.specs.declared.network.Network.{Network}
+use Rattle.calculus.specs.declared.request.Request as request
+use Rattle.calculus.specs.declared.state.Part.{Part}
+use Rattle.forms.specs.declared.read.Parsed.{Parsed}
+use Rattle.forms.specs.declared.read.Parsed.the-variants.{Asks, Refused}
+use Rattle.forms.specs.Read.{read}
+use Rattle.forms.specs.Request.{asked}
+use Rattle.model.specs.Lists.{upFrom}
+use Rattle.model.specs.Row.{areNodes}
+use Rattle.model.specs.State.{answerOf, writtenCount, applied, sessionAfter}
+use Rattle.model.specs.Requests.{Move, refuse, opening, openMove, stepped, stepAt, stepMove, sending, sendMove, closing, closeMove}
+use Rattle.model.specs.Calls.{Call}
+use Rattle.model.specs.Noninterference.{numbersInAll}
+use Rattle.model.proofs.Checks.{either, checked-either}
+use Rattle.model.proofs.Asked.{ownMove, own-cases}
+use Rattle.model.proofs.Local.{Seen, seenMove, seenParsed, local}
+
+pub up-append : (n j k : ℕ) → upFrom n (j + k) ≡ upFrom n j ++ upFrom (n + j) k
+unfolding upFrom
+up-append n zero k = rw (zero-add, add-zero)
+up-append n (suc j) k =
+    let e : suc j + k ≡ suc (j + k) = omega arith in
+    let f : n + suc j ≡ n + 1 + j = omega arith in
+    rw (e, f) (ap (λ (l : List ℕ). (n + 1) ∷ l) (up-append (n + 1) j k))
+
+-- as many numbers as the part's last number grew by, those after it
+pub record Issued (t t′ : Part) (l : List ℕ) : Type 0 where
+  pub many : ℕ
+  pub last : t′ .session .last ≡ t .session .last + many
+  pub carried : l ≡ upFrom (t .session .last) many
+
+abbrev Issues : Part → Seen → Type 0
+Issues t x = Issued t (x .part) (numbersInAll (x .answers))
+
+abbrev IssuesMove : Part → Move → Type 0
+IssuesMove t m = Issues t (seenMove t m)
+
+pub issued-none : (t : Part) → Issued t t []
+unfolding upFrom
+issued-none t = record { many = 0; last = omega arith; carried = refl }
+
+-- the answer of an outcome carries the numbers of the items written
+answer-numbers : (n : ℕ) (o : Outcome) → numbersInAll (answerOf n o ∷ []) ≡ upFrom n (writtenCount o)
+unfolding upFrom
+answer-numbers n (Wrote i) = refl
+answer-numbers n (WroteTwo i j) = let e : n + 2 ≡ n + 1 + 1 = omega arith in rw e
+answer-numbers n (Lost k) = refl
+answer-numbers n Denied = refl
+answer-numbers n Opened = refl
+answer-numbers n (Delivered tag) = refl
+
+module _ (t : Part) where
+  step-issues : (at : ℕ) (f : Effect) → IssuesMove t (stepped t at f)
+  unfolding stepped applied sessionAfter
+  step-issues at f = record { many = writtenCount (f .outcome); last = refl; carried = answer-numbers (t .session .last) (f .outcome) }
+
+  move-issues : (n : Network) (q : request.Request) → IssuesMove t (ownMove n areNodes q t)
+  unfolding openMove opening stepMove stepAt sendMove sending closeMove closing upFrom
+  move-issues n q =
+      own-cases (IssuesMove t) n areNodes q t (issued-none t)
+      (λ c d. checked-either (IssuesMove t) refuse (λ r. issued-none t) _ (λ e. record { many = 1; last = refl; carried = refl }))
+      (λ k. checked-either (IssuesMove t) refuse (λ r. issued-none t) _ (λ e. step-issues _ _))
+      (λ w tag. checked-either (IssuesMove t) refuse (λ r. issued-none t) _ (λ e. record { many = 1; last = refl; carried = refl }))
+      (checked-either (IssuesMove t) refuse (λ r. issued-none t) _ (λ e. record { many = 0; last = omega arith; carried = refl }))
+
+  parsed-issues : (n : Network) (p : Parsed) → Issues t (seenParsed n t p)
+  parsed-issues n (Asks q) = move-issues n q
+  parsed-issues n (Refused r) = issued-none t
+
+  pub local-issues : (n : Network) (c : Call) → Issues t (local n t c)
+  unfolding local
+  local-issues n c =
+      either (Issues t) (ltb (c .size) 65536) (λ e. issued-none t) (λ e. parsed-issues n (asked (read (c .line)) .parsed))

@@ -1,0 +1,110 @@
+-- A refused call changes nothing, and every call is refused or answered. Assumes nothing.
+use mathlib.Core.Path.{_≡_, refl, sym, subst}
+use mathlib.Core.Bool.{Bool, true, false}
+use mathlib.Core.List.{List}
+use mathlib.Core.Option.{Option, none, some}
+use Prim.Native.Nat.{ℕ}
+use lib.Dec.{ltb}
+use Rattle.calculus.proofs.Tests.{never}
+use Rattle.calculus.specs.declared.answer.Answer.{Answer}
+use Rattle.calculus.specs.declared.answer.Answer.the-variants.{Ok, Made, MadeTwo, Lost, Denied, Opened, Delivered, Closed, No, Assoc, End}
+use Rattle.calculus.specs.declared.answer.Refusal.{Refusal}
+use Rattle.calculus.specs.declared.answer.Refusal.the-variants.{Short}
+use Rattle.calculus.specs.declared.effect.Outcome.{Outcome}
+use Rattle.calculus.specs.declared.effect.Outcome.the-variants as outcome
+use Rattle.calculus.specs.declared.effect.Effect.{Effect}
+use Rattle.calculus.specs.declared.network.Network.{Network}
+use Rattle.calculus.specs.declared.request.Request as request
+use Rattle.calculus.specs.declared.state.Part.{Part}
+use Rattle.calculus.specs.declared.state.State.{State}
+use Rattle.calculus.specs.declared.state.Turn.{Turn}
+use Rattle.forms.specs.declared.read.Reading.{Reading}
+use Rattle.forms.specs.Text.{Form}
+use Rattle.forms.specs.Read.{read}
+use Rattle.forms.specs.Request.{asked}
+use Rattle.model.specs.State.{answerOf}
+use Rattle.model.specs.Requests.{refused, nodeTurn, routeTurn, Move, refuse, moved, openMove, stepped, stepAt, stepMove, sendMove, closeMove, performed}
+use Rattle.model.specs.Row.{stands}
+use Rattle.model.specs.Calls.{answered, requested, repliedTo, refusalIn, said}
+use Rattle.model.specs.Refusals.{isOneLine, Settled, refusedWith, answeredWith, shownWith, Refusals}
+use Rattle.model.proofs.Checks.{either, IsWritten, checked-written}
+use Rattle.model.proofs.Asked.{ownMove, own-cases, requested-own, Meaning, refuses, givesNode, givesRoute, ofSession, shows, meaning}
+
+-- ---- one line
+
+one-line : (a : Answer) → isOneLine a ≡ true → refusalIn a ≡ none
+one-line Ok e = refl
+one-line (Made n) e = refl
+one-line (MadeTwo n m) e = refl
+one-line (Lost l) e = refl
+one-line Denied e = refl
+one-line Opened e = refl
+one-line (Delivered tag) e = refl
+one-line Closed e = refl
+one-line (No r) e = never e
+one-line (Assoc a out q spi users) e = refl
+one-line End e = refl
+
+said-answer : (s : State) (t : Turn) → isOneLine (t .answer) ≡ true → Settled s (said t)
+said-answer s t e = rw (one-line (t .answer) e) (answeredWith (t .state) (t .answer) e)
+
+said-refusal : (s : State) (r : Refusal) → IsWritten r → Settled s (said (refused s r))
+said-refusal s r w =
+    subst (λ (l : List Answer). Settled s (record { state = s; answers = l; refusal = some r })) (rw w) (refusedWith r)
+
+abbrev Says : State → Turn → Type 0
+Says s t = Settled s (said t)
+
+-- ---- a session's move
+
+-- a refusal that is written, or an answer of one line
+abbrev Answers : Move → Type 0
+Answers (refuse r) = IsWritten r
+Answers (moved a t c) = isOneLine a ≡ true
+
+outcome-answers : (n : ℕ) (o : Outcome) → isOneLine (answerOf n o) ≡ true
+outcome-answers n (outcome.Wrote i) = refl
+outcome-answers n (outcome.WroteTwo i j) = refl
+outcome-answers n (outcome.Lost k) = refl
+outcome-answers n outcome.Denied = refl
+outcome-answers n outcome.Opened = refl
+outcome-answers n (outcome.Delivered tag) = refl
+
+step-answers : (t : Part) (at : ℕ) (f : Effect) → Answers (stepped t at f)
+unfolding stepped
+step-answers t at f = outcome-answers (t .session .last) (f .outcome)
+
+move-answers : (n : Network) (standing : ℕ → ℕ → Bool) (q : request.Request) (t : Part) → Answers (ownMove n standing q t)
+unfolding openMove stepMove stepAt sendMove closeMove
+move-answers n standing q t =
+    own-cases Answers n standing q t refl
+    (λ c d. checked-written Answers refuse (λ r w. w) _ (refl, (refl, (refl, (refl, (refl, tt))))) refl)
+    (λ k. checked-written Answers refuse (λ r w. w) _ (refl, (refl, (refl, (refl, tt)))) (step-answers t _ _))
+    (λ w tag. checked-written Answers refuse (λ r w. w) _ (refl, (refl, (refl, tt))) refl)
+    (checked-written Answers refuse (λ r w. w) _ (refl, tt) refl)
+
+performed-says : (s : State) (u : ℕ) (m : Move) → Answers m → Says s (performed s u m)
+unfolding performed
+performed-says s u (refuse r) w = said-refusal s r w
+performed-says s u (moved a t c) e = said-answer s _ e
+
+-- ---- a call
+
+asked-settled : (s : State) (o : Option Form) (r : Reading) → Meaning o r → Settled s (repliedTo s r)
+unfolding requested nodeTurn routeTurn
+asked-settled s o r (refuses x w) = said-refusal s x w
+asked-settled s o r (givesNode a k has needs n) =
+    checked-written (Says s) (refused s) (said-refusal s) _ (refl, (refl, tt)) (said-answer s _ refl)
+asked-settled s o r (givesRoute a b next i n) =
+    checked-written (Says s) (refused s) (said-refusal s) _ (refl, (refl, (refl, (refl, tt)))) (said-answer s _ refl)
+asked-settled s o r (ofSession q i h) =
+    subst (Settled s) (sym (requested-own s _ _ q i)) (performed-says s _ _ (move-answers (s .network) (stands (s .users) false) q _))
+asked-settled s o r (shows h) = shownWith
+
+pub refusals : Refusals
+unfolding answered
+refusals =
+    record {
+      settled = λ s line size.
+          either (Settled s) (ltb size 65536) (λ e. refusedWith Short) (λ e. asked-settled s (read line) (asked (read line)) (meaning (read line)));
+    }

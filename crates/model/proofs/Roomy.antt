@@ -1,0 +1,111 @@
+-- There is room: every request leaves a place for each item and row to come, and each wait that is to be used up. Assumes nothing.
+use mathlib.Core.Path.{_≡_, refl, _∙_}
+use mathlib.Core.Bool.{false}
+use mathlib.Core.List.{List}
+use Prim.Native.Nat.{ℕ, _+_, _-_, _*_, _≤_, _<_}
+use native.Mathlib.Omega.{arith}
+use lib.ListN.{length, set, replicate, length-take}
+use Rattle.calculus.specs.declared.effect.Wait.{Wait}
+use Rattle.calculus.specs.declared.effect.Effect.{Effect}
+use Rattle.calculus.specs.declared.packet.Item.{Item}
+use Rattle.calculus.specs.declared.packet.Item.the-variants.{Free}
+use Rattle.calculus.specs.declared.packet.Slot.{Slot}
+use Rattle.calculus.specs.declared.session.Stage.{Stage}
+use Rattle.calculus.specs.declared.state.Part.{Part}
+use Rattle.model.specs.State.{blankSlot, blankRow, addedRows, putItem, sessionAfter, applied}
+use Rattle.model.specs.Item.{isWait}
+use Rattle.model.specs.Requests.{nextNumber, withItem}
+use Rattle.model.specs.SetUp.{isPending}
+use Rattle.model.proofs.Parts.{Whole}
+use Rattle.model.proofs.Weights.{itemAt, count, weigh, weighOut, weighWait, weigh-set, weigh-at, weigh-put, not-that-wait, length-put, ledger}
+use Rattle.model.proofs.Moves.{applied-whole}
+use Rattle.model.proofs.SetUpWeights.{waits, uses, space, carries, due, spare, pending, pends}
+use Rattle.model.proofs.Balance.{Law}
+
+pub record Roomy (t : Part) : Type 0 where
+  pub whole : Whole t
+  -- each wait pends as often as it is to be used up
+  pub waits : (v : Wait) → weigh (uses v) (t .items) ≤ weigh (waits v) (t .items)
+  -- the set-up holds 3 places at most, Data 12; an unused session holds none
+  pub places : weigh space (t .items) + spare (t .session .stage) ≤ 3
+  pub tags : weigh carries (t .items) + 4 * spare (t .session .stage) ≤ 12
+  -- the rows there are and those to come: 4 for each of 8 establishments
+  pub rows : weigh due (t .items) + 4 * (8 - t .session .begun) + t .session .rows ≤ 32
+
+-- a part with no items and no rows
+abbrev pub emptied : ℕ → Part
+emptied last =
+    record {
+      session = record { stage = Stage.Unused; client = 0; server = 0; begun = 0; rows = 0; last = last };
+      items = replicate 16 blankSlot;
+      rows = replicate 32 blankRow;
+    }
+
+pub roomy-empty : (last : ℕ) → Roomy (emptied last)
+unfolding weigh uses space carries due
+roomy-empty last = omega arith
+
+module _ (t : Part) (h : Roomy t) where
+  -- ---- a step
+
+  module _ (at : ℕ) (b : at < 16) (w : isWait (itemAt (t .items) at) ≡ false) (f : Effect) (law : Law (t .session) (itemAt (t .items) at) f) where
+    abbrev item : Item
+    item = itemAt (t .items) at
+
+    abbrev rest : List Slot
+    rest = set (t .items) at blankSlot
+
+    -- no wait is gone with the item
+    still : (v : Wait) → uses v item ≤ weigh (waits v) rest
+    unfolding waits uses
+    still v =
+        omega (
+          arith,
+          weigh-at (uses v) refl (t .items) at,
+          h .waits v,
+          weigh-set (waits v) (t .items) at blankSlot (omega arith),
+          not-that-wait v item w,
+        )
+
+    step-ledger : (x : Item → ℕ) → x Free ≡ 0
+        → weigh x (applied t at f .items) + (x item + weighWait x (f .wait)) ≡ weigh x (t .items) + weighOut x (f .outcome)
+    unfolding applied
+    step-ledger x z =
+        ledger x z (t .items) (t .session .last) at f (omega arith) (pends item rest still (f .wait) (law .wants)) (omega (arith, pending (t .items)))
+
+    pub roomy-step : Roomy (applied t at f)
+    unfolding waits uses space carries due applied sessionAfter
+    roomy-step =
+        record {
+          whole = applied-whole t (h .whole) at f;
+          waits = λ v.
+              omega (
+                arith,
+                step-ledger (uses v) refl,
+                step-ledger (waits v) (not-that-wait v Free refl),
+                law .waits v,
+                h .waits v,
+                not-that-wait v item w,
+              );
+          places = omega (arith, step-ledger space refl);
+          tags = omega (arith, step-ledger carries refl);
+          rows = omega (arith, step-ledger due refl, length-take (32 - t .session .rows) (addedRows (f .added)));
+        }
+
+  -- ---- an item more, for which nothing waits
+
+  pub roomy-item : (g : Stage) (c d : ℕ) (i : Item) → ((v : Wait) → uses v i ≡ 0) → due i ≡ 0
+      → weigh space (t .items) + space i + spare g ≤ 3 → weigh carries (t .items) + carries i + 4 * spare g ≤ 12 → Roomy (withItem t g c d i)
+  unfolding waits uses space carries due
+  roomy-item g c d i no-waits no-rows places tags =
+      let n = nextNumber t in
+      let room : weigh (count isPending) (t .items) < length (t .items) = omega (arith, pending (t .items)) in
+      let put : (x : Item → ℕ) → x Free ≡ 0 → weigh x (putItem (t .items) n i) ≡ weigh x (t .items) + x i =
+      λ x z. weigh-put x z (t .items) n i room in
+      record {
+        whole = record { items = length-put (t .items) n i ∙ h .whole .items; rows = h .whole .rows };
+        waits = λ v. omega (arith, put (uses v) refl, put (waits v) (not-that-wait v Free refl), h .waits v, no-waits v);
+        places = omega (arith, put space refl);
+        tags = omega (arith, put carries refl);
+        rows = omega (arith, put due refl, no-rows);
+      }

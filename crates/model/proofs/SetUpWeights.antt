@@ -1,0 +1,199 @@
+-- The weights of a set-up: the waits that an item is to use up, the places that it holds, the rows that it will add. Assumes nothing.
+use mathlib.Core.Path.{_≡_, refl}
+use mathlib.Core.Bool.{Bool, true, false, cond, not, _&&_}
+use mathlib.Core.List.{List}
+use Prim.Native.Nat.{ℕ, _+_, _≤_}
+use native.Mathlib.Omega.{arith}
+use borrow.Author.Tests.{eq-eqb}
+use Rattle.calculus.specs.declared.effect.Wait.{Wait}
+use Rattle.calculus.specs.declared.effect.Wait.the-variants.{NoWait, Discovery, Establishment}
+use Rattle.calculus.specs.declared.packet.Payload.{Payload}
+use Rattle.calculus.specs.declared.packet.Payload.the-variants.{Req, Rep, Disc, Done, Data}
+use Rattle.calculus.specs.declared.packet.Packet.{Packet}
+use Rattle.calculus.specs.declared.packet.Side.{Side}
+use Rattle.calculus.specs.declared.packet.Side.the-variants.{Responder, Initiator}
+use Rattle.calculus.specs.declared.packet.Item.{Item}
+use Rattle.calculus.specs.declared.packet.Item.the-variants.{Free, Wire, Out, Up, In, Est, Auth, Grant, Ack, Dwait, Ewait}
+use Rattle.calculus.specs.declared.packet.Slot.{Slot}
+use Rattle.calculus.specs.declared.session.Stage.{Stage}
+use Rattle.model.specs.Packet.{isData}
+use Rattle.model.specs.Item.{isThatWait, isDataItem}
+use Rattle.model.specs.Requests.{isUnused}
+use Rattle.model.specs.SetUp.{isPending, isSetUpItem, isGrant, Pends, waitOfPacket, waitOf}
+use Rattle.model.proofs.Weights.{count, weigh, counted, weigh-le, weigh-sum}
+
+-- ---- the weights
+
+-- an item's weight, by the weight of its packet, of an est's node, of the side of an auth and a grant, of an ack's node, of a wait
+abbrev weight : (Packet → ℕ) → (ℕ → ℕ) → (Side → ℕ → ℕ → ℕ → ℕ) → (ℕ → ℕ) → ℕ → Item → ℕ
+weight packet est side ack wait Free = 0
+weight packet est side ack wait (Wire a p h) = packet p
+weight packet est side ack wait (Out a p) = packet p
+weight packet est side ack wait (Up a p) = packet p
+weight packet est side ack wait (In a p q) = packet p
+weight packet est side ack wait (Est a b e) = est a
+weight packet est side ack wait (Auth a q e s) = side s a q e
+weight packet est side ack wait (Grant a q e s) = side s a q e
+weight packet est side ack wait (Ack a e) = ack a
+weight packet est side ack wait (Dwait a) = wait
+weight packet est side ack wait (Ewait a e) = wait
+
+-- it is the wait v
+unfoldable pub waits : Wait → Item → ℕ
+waits v i = count (isThatWait v) i
+
+-- dwait(a) and ewait(a, e)
+abbrev bothWaits : Wait → ℕ → ℕ → ℕ
+bothWaits v a e = waits v (Dwait a) + waits v (Ewait a e)
+
+abbrev packetUses : Wait → Payload → ℕ → ℕ → ℕ
+packetUses v (Req e) from to = bothWaits v from e
+packetUses v (Rep e) from to = bothWaits v to e
+packetUses v (Disc p) from to = 0
+packetUses v Done from to = 0
+packetUses v (Data tag) from to = 0
+
+abbrev sideUses : Wait → Side → ℕ → ℕ → ℕ → ℕ
+sideUses v Responder a q e = bothWaits v q e
+sideUses v Initiator a q e = waits v (Dwait a)
+
+-- it, or what comes of it, is to use up the wait v
+unfoldable pub uses : Wait → Item → ℕ
+uses v i =
+    weight (λ p. packetUses v (p .payload) (p .source) (p .destination)) (λ a. waits v (Dwait a)) (sideUses v) (λ a. waits v (Dwait a)) 0 i
+
+abbrev pub packetSpace : Payload → ℕ
+packetSpace (Req e) = 1
+packetSpace (Rep e) = 1
+packetSpace (Disc p) = 3
+packetSpace Done = 1
+packetSpace (Data tag) = 0
+
+abbrev sideSpace : Side → ℕ
+sideSpace Responder = 1
+sideSpace Initiator = 2
+
+-- the places of the set-up that it, and what comes of it, holds at most
+unfoldable pub space : Item → ℕ
+space i = weight (λ p. packetSpace (p .payload)) (λ a. 2) (λ s a q e. sideSpace s) (λ a. 2) 1 i
+
+-- it is a packet with Data
+unfoldable pub carries : Item → ℕ
+carries i = count isDataItem i
+
+abbrev packetDue : Payload → ℕ
+packetDue (Req e) = 4
+packetDue (Rep e) = 2
+packetDue (Disc p) = 0
+packetDue Done = 0
+packetDue (Data tag) = 0
+
+abbrev sideDue : Side → ℕ
+sideDue Responder = 4
+sideDue Initiator = 2
+
+-- the rows that its establishment will still add: two at the responder, then two at the initiator
+unfoldable pub due : Item → ℕ
+due i = weight (λ p. packetDue (p .payload)) (λ a. 4) (λ s a q e. sideDue s) (λ a. 0) 0 i
+
+-- the places that an unused session keeps for its set-up
+abbrev pub spare : Stage → ℕ
+spare g = cond (isUnused g) 3 0
+
+-- ---- the waits that are wanted
+
+-- the item is to use up the wait, if there is one
+abbrev pub Wanted : Item → Wait → Type 0
+Wanted i NoWait = Unit
+Wanted i (Discovery a) = 1 ≤ uses (Discovery a) i
+Wanted i (Establishment a e) = 1 ≤ uses (Establishment a e) i
+
+packet-wanted : (a from : ℕ) (y : Payload) (i : Item) → ((v : Wait) → uses v i ≡ packetUses v y from a) → Wanted i (waitOfPacket a y)
+unfolding waits
+packet-wanted a from (Req e) i h = tt
+packet-wanted a from (Rep e) i h = rw (h (Establishment a e), eq-eqb a a refl, eq-eqb e e refl) (omega arith)
+packet-wanted a from (Disc p) i h = tt
+packet-wanted a from Done i h = tt
+packet-wanted a from (Data tag) i h = tt
+
+pub wanted : (i : Item) → Wanted i (waitOf i)
+unfolding uses waits
+wanted Free = tt
+wanted (Wire a p h) = packet-wanted (p .destination) (p .source) (p .payload) (Wire a p h) (λ v. refl)
+wanted (Out a p) = packet-wanted (p .destination) (p .source) (p .payload) (Out a p) (λ v. refl)
+wanted (Up a p) = packet-wanted (p .destination) (p .source) (p .payload) (Up a p) (λ v. refl)
+wanted (In a p q) = packet-wanted (p .destination) (p .source) (p .payload) (In a p q) (λ v. refl)
+wanted (Est a b e) = tt
+wanted (Auth a q e side) = tt
+wanted (Grant a q e side) = tt
+wanted (Ack a e) = rw (eq-eqb a a refl) (omega arith)
+wanted (Dwait a) = tt
+wanted (Ewait a e) = tt
+
+-- a wait that an item is to use up pends, if as many do as are used up
+pub pends : (i : Item) (l : List Slot) → ((v : Wait) → uses v i ≤ weigh (waits v) l) → (v : Wait) → Wanted i v → Pends l v
+unfolding waits
+pends i l h NoWait k = tt
+pends i l h (Discovery a) k = omega (arith, h (Discovery a), counted (isThatWait (Discovery a)) l)
+pends i l h (Establishment a e) k = omega (arith, h (Establishment a e), counted (isThatWait (Establishment a e)) l)
+
+-- ---- the places held
+
+packet-space : (y : Payload) → cond (not (isData y)) 1 0 ≤ packetSpace y
+packet-space (Req e) = omega arith
+packet-space (Rep e) = omega arith
+packet-space (Disc p) = omega arith
+packet-space Done = omega arith
+packet-space (Data tag) = omega arith
+
+side-space : (s : Side) → 1 ≤ sideSpace s
+side-space Responder = omega arith
+side-space Initiator = omega arith
+
+pub set-up-space : (i : Item) → count isSetUpItem i ≤ space i
+unfolding space
+set-up-space Free = omega arith
+set-up-space (Wire a p h) = packet-space (p .payload)
+set-up-space (Out a p) = packet-space (p .payload)
+set-up-space (Up a p) = packet-space (p .payload)
+set-up-space (In a p q) = packet-space (p .payload)
+set-up-space (Est a b e) = omega arith
+set-up-space (Auth a q e side) = side-space side
+set-up-space (Grant a q e side) = side-space side
+set-up-space (Ack a e) = omega arith
+set-up-space (Dwait a) = omega arith
+set-up-space (Ewait a e) = omega arith
+
+-- an item is the set-up's, or Data
+set-up-or-data : (i : Item) → count isPending i ≤ space i + carries i
+unfolding carries
+set-up-or-data i = go (isPending i) (isDataItem i) (set-up-space i)
+  where
+    go : (p d : Bool) {k : ℕ} → cond (p && not d) 1 0 ≤ k → cond p 1 0 ≤ k + cond d 1 0
+    go true true h = omega arith
+    go true false h = omega arith
+    go false d h = omega arith
+
+pub pending : (l : List Slot) → weigh (count isPending) l ≤ weigh space l + weigh carries l
+pending l = omega (arith, weigh-le (count isPending) (λ i. space i + carries i) set-up-or-data l, weigh-sum space carries l)
+
+-- ---- the rows to come
+
+side-due : (s : Side) → 2 ≤ sideDue s
+side-due Responder = omega arith
+side-due Initiator = omega arith
+
+-- a grant adds two rows
+pub grant-due : (i : Item) → count isGrant i + count isGrant i ≤ due i
+unfolding due
+grant-due Free = omega arith
+grant-due (Wire a p h) = omega arith
+grant-due (Out a p) = omega arith
+grant-due (Up a p) = omega arith
+grant-due (In a p q) = omega arith
+grant-due (Est a b e) = omega arith
+grant-due (Auth a q e side) = omega arith
+grant-due (Grant a q e side) = side-due side
+grant-due (Ack a e) = omega arith
+grant-due (Dwait a) = omega arith
+grant-due (Ewait a e) = omega arith

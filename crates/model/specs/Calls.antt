@@ -1,0 +1,145 @@
+-- One call, and a list of calls. The simulator's one entry will cite `answered`. Assumes nothing.
+use Prim.Native.Nat.{ℕ}
+use mathlib.Core.Bool.{Bool, true, false, cond}
+use mathlib.Core.List.{List, [], _∷_, _++_, map}
+use mathlib.Core.Option.{Option, none, some}
+use lib.Dec.{ltb, eqb}
+use lib.ListN.{length, drop}
+use Rattle.calculus.specs.declared.answer.Answer.{Answer}
+use Rattle.calculus.specs.declared.answer.Answer.the-variants.{Ok, Made, MadeTwo, Lost, Denied, Opened, Delivered, Closed, No, Assoc, End}
+use Rattle.calculus.specs.declared.answer.Refusal.{Refusal}
+use Rattle.calculus.specs.declared.answer.Refusal.the-variants.{Short}
+use Rattle.calculus.specs.declared.request.Request as request
+use Rattle.calculus.specs.declared.request.Request.the-variants.{Node, Route, Open, Step, Send, Close, Show}
+use Rattle.calculus.specs.declared.state.State.{State}
+use Rattle.calculus.specs.declared.state.Turn.{Turn}
+use Rattle.forms.specs.declared.read.Parsed.{Parsed}
+use Rattle.forms.specs.declared.read.Parsed.the-variants.{Asks, Refused}
+use Rattle.forms.specs.declared.read.Reading.{Reading}
+use Rattle.forms.specs.Bytes.{joined}
+use Rattle.forms.specs.Text.{Form, node, route, «open», step, send, close, show}
+use Rattle.forms.specs.Read.{read}
+use Rattle.forms.specs.Request.{asked}
+use Rattle.forms.specs.Answer.{answerText}
+use Rattle.model.specs.Row.{stands}
+use Rattle.model.specs.Requests.{refused, nodeTurn, routeTurn, inSession, openMove, stepMove, sendMove, closeMove, shown}
+
+-- ---- one call
+
+-- what a call answers and leaves; `refusal` is what it returns, if refused
+pub record Reply : Type 0 where
+  pub state : State
+  pub answers : List Answer
+  pub refusal : Option Refusal
+
+abbrev pub refusalIn : Answer → Option Refusal
+refusalIn Ok = none
+refusalIn (Made n) = none
+refusalIn (MadeTwo n m) = none
+refusalIn (Lost l) = none
+refusalIn Denied = none
+refusalIn Opened = none
+refusalIn (Delivered tag) = none
+refusalIn Closed = none
+refusalIn (No r) = some r
+refusalIn (Assoc a out q spi users) = none
+refusalIn End = none
+
+-- one answer
+abbrev pub said : Turn → Reply
+said t = record { state = t .state; answers = t .answer ∷ []; refusal = refusalIn (t .answer) }
+
+-- refusal 0: "nothing written"
+abbrev pub short : State → Reply
+short s = record { state = s; answers = []; refusal = some Short }
+
+-- a request with its credentials, if it is a node's
+unfoldable pub requested : State → List Bool → List Bool → request.Request → Reply
+requested s has needs (Node a k) = said (nodeTurn s a k has needs)
+requested s has needs (Route a b n) = said (routeTurn s a b n)
+requested s has needs (Open u c d) = said (inSession s (u .0) (openMove (s .network) c d))
+requested s has needs (Step u k) = said (inSession s (u .0) (stepMove (s .network) (stands (s .users) false) (k .0)))
+requested s has needs (Send u w tag) = said (inSession s (u .0) (sendMove w tag))
+requested s has needs (Close u) = said (inSession s (u .0) closeMove)
+requested s has needs Show = record { state = s; answers = shown (s .users); refusal = none }
+
+-- "every call 0, 1, 2": 1 and 2 are the reading's
+abbrev pub replied : State → List Bool → List Bool → Parsed → Reply
+replied s has needs (Asks q) = requested s has needs q
+replied s has needs (Refused r) = said (refused s r)
+
+abbrev pub repliedTo : State → Reading → Reply
+repliedTo s r = replied s (r .has) (r .needs) (r .parsed)
+
+-- a call with this line and a lent output of `size` bytes
+unfoldable pub answered : State → List ℕ → ℕ → Reply
+answered s line size = cond (ltb size 65536) (short s) (repliedTo s (asked (read line)))
+
+-- the lines that are written
+abbrev pub linesOf : Reply → List ℕ
+linesOf r = joined (map answerText (r .answers))
+
+-- the lent output after the call: the lines, and "output bytes past them stay"
+abbrev pub outputAfter : List ℕ → Reply → List ℕ
+outputAfter out r = linesOf r ++ drop (length (linesOf r)) out
+
+-- ---- a list of calls
+
+-- a call: its line, and the length of its lent output
+pub record Call : Type 0 where
+  pub line : List ℕ
+  pub size : ℕ
+
+abbrev pub call : State → Call → Reply
+call s c = answered s (c .line) (c .size)
+
+-- "Each call of the list gets the tables that the call before it left, refused or not"
+unfoldable pub after : State → List Call → State
+after s [] = s
+after s (c ∷ cs) = after (call s c .state) cs
+
+unfoldable pub replies : State → List Call → List Reply
+replies s [] = []
+replies s (c ∷ cs) = let r = call s c in r ∷ replies (r .state) cs
+
+-- the line is a node or route form
+abbrev pub formGivesNetwork : Option Form → Bool
+formGivesNetwork (some (node a k has needs)) = true
+formGivesNetwork (some (route a b n)) = true
+formGivesNetwork (some («open» u c d)) = false
+formGivesNetwork (some (step u k)) = false
+formGivesNetwork (some (send u w tag)) = false
+formGivesNetwork (some (close u)) = false
+formGivesNetwork (some show) = false
+formGivesNetwork none = false
+
+abbrev pub givesNetwork : Call → Bool
+givesNetwork c = formGivesNetwork (read (c .line))
+
+-- the line names session u
+abbrev pub formNames : ℕ → Option Form → Bool
+formNames u (some (node a k has needs)) = false
+formNames u (some (route a b n)) = false
+formNames u (some («open» v c d)) = eqb v u
+formNames u (some (step v k)) = eqb v u
+formNames u (some (send v w tag)) = eqb v u
+formNames u (some (close v)) = eqb v u
+formNames u (some show) = false
+formNames u none = false
+
+-- "A call is a session's own if its line names that session"
+abbrev pub isOwn : ℕ → Call → Bool
+isOwn u c = formNames u (read (c .line))
+
+-- u's own calls
+unfoldable pub own : ℕ → List Call → List Call
+own u [] = []
+own u (c ∷ cs) = cond (isOwn u c) (c ∷ own u cs) (own u cs)
+
+-- the replies to u's own calls among all
+unfoldable pub repliesTo : ℕ → State → List Call → List Reply
+repliesTo u s [] = []
+repliesTo u s (c ∷ cs) =
+    let r = call s c in
+    let more = repliesTo u (r .state) cs in
+    cond (isOwn u c) (r ∷ more) more

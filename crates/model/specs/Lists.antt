@@ -1,0 +1,29 @@
+-- Walks over lists. Assumes nothing.
+use Prim.Native.Nat.{ℕ, zero, suc, _+_}
+use mathlib.Core.Bool.{Bool, cond}
+use mathlib.Core.List.{List, [], _∷_}
+
+-- f from the front on, beginning with b
+abbrev pub fold : {A B : Type 0} → (B → A → B) → B → List A → B
+fold f b [] = b
+fold f b (x ∷ xs) = fold f (f b x) xs
+
+-- the first place at which f holds, or the length
+abbrev pub place : {A : Type 0} → (A → Bool) → List A → ℕ
+place f [] = 0
+place f (x ∷ xs) = cond (f x) 0 (suc (place f xs))
+
+-- how many elements f holds of
+abbrev pub tally : {A : Type 0} → (A → Bool) → List A → ℕ
+tally f [] = 0
+tally f (x ∷ xs) = cond (f x) 1 0 + tally f xs
+
+-- P holds of each element
+abbrev pub All : {A : Type 0} → (A → Type 0) → List A → Type 0
+All P [] = Unit
+All P (x ∷ xs) = P x × All P xs
+
+-- the k numbers after n
+unfoldable pub upFrom : ℕ → ℕ → List ℕ
+upFrom n zero = []
+upFrom n (suc k) = (n + 1) ∷ upFrom (n + 1) k

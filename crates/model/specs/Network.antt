@@ -1,0 +1,54 @@
+-- The network that node and route calls gave, and what is looked up in it. Assumes nothing.
+use Prim.Native.Nat.{ℕ, _+_, _*_, _-_}
+use mathlib.Core.Bool.{Bool, true, false, cond, not, _&&_, _||_}
+use mathlib.Core.List.{List, [], _∷_}
+use lib.Dec.{eqb}
+use lib.ListN.{getD}
+use Rattle.calculus.specs.Number.{isNode}
+use Rattle.calculus.specs.declared.network.Kind.{Kind}
+use Rattle.calculus.specs.declared.network.Kind.the-variants.{Host, Gateway}
+use Rattle.calculus.specs.declared.network.Node.{Node}
+use Rattle.calculus.specs.declared.network.Network.{Network}
+use Rattle.calculus.specs.declared.network.NextHop.{NextHop}
+use Rattle.calculus.specs.declared.network.NextHop.the-variants.{Found, Missing}
+use Rattle.forms.specs.Request.{noCredentials}
+
+-- the place of a node that was not given
+abbrev pub noNode : Node
+noNode = record { given = false; kind = Host; has = noCredentials; needs = noCredentials }
+
+-- node a, as it was given
+unfoldable pub nodeAt : Network → ℕ → Node
+nodeAt n a = cond (isNode a) (getD (n .nodes) (a - 1) noNode) noNode
+
+abbrev pub given : Network → ℕ → Bool
+given n a = nodeAt n a .given
+
+abbrev pub isGate : Kind → Bool
+isGate Host = false
+isGate Gateway = true
+
+abbrev pub isGateway : Network → ℕ → Bool
+isGateway n a = isGate (nodeAt n a .kind)
+
+-- the place of the route from a for b
+abbrev pub routePlace : ℕ → ℕ → ℕ
+routePlace a b = 32 * (a - 1) + (b - 1)
+
+-- a stored next node: 0 where there is no route
+abbrev pub hop : ℕ → NextHop
+hop next = cond (eqb next 0) Missing (Found next)
+
+-- "A route (at, destination, next) gives the next node."
+unfoldable pub nextHop : Network → ℕ → ℕ → NextHop
+nextHop n a b = cond (isNode a && isNode b) (hop (getD (n .routes) (routePlace a b) 0)) Missing
+
+-- every credential of the second set is in the first
+unfoldable pub covers : List Bool → List Bool → Bool
+covers has [] = true
+covers [] (n ∷ needs) = not n && covers [] needs
+covers (h ∷ has) (n ∷ needs) = (h || not n) && covers has needs
+
+-- "q has all that a needs"
+unfoldable pub hasAllNeeded : Network → ℕ → ℕ → Bool
+hasAllNeeded n a q = covers (nodeAt n q .has) (nodeAt n a .needs)

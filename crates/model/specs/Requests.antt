@@ -1,0 +1,231 @@
+-- What each request answers, and the state that it leaves; its refusals, in document 01's order. Assumes nothing.
+use Prim.Native.Nat.{ℕ, zero, suc, _+_, _-_}
+use mathlib.Core.Bool.{Bool, true, false, cond, not, _&&_, _||_}
+use mathlib.Core.List.{List, [], _∷_, _++_}
+use lib.Dec.{leb, ltb, eqb}
+use lib.ListN.{getD, set, take, drop, replicate}
+use Rattle.calculus.specs.declared.answer.Answer.{Answer}
+use Rattle.calculus.specs.declared.answer.Answer.the-variants.{Ok, Made, Closed, No, Assoc, End}
+use Rattle.calculus.specs.declared.answer.Refusal.{Refusal}
+use Rattle.calculus.specs.declared.answer.Refusal.the-variants.{Double, Unknown, Late, Taken, Idle, Same, Spent, NoItem, Waiting, Full}
+use Rattle.calculus.specs.declared.answer.Refusal.the-variants as refusal
+use Rattle.calculus.specs.declared.network.Kind.{Kind}
+use Rattle.calculus.specs.declared.network.Network.{Network}
+use Rattle.calculus.specs.declared.network.NextHop.{NextHop}
+use Rattle.calculus.specs.declared.network.NextHop.the-variants.{Found, Missing}
+use Rattle.calculus.specs.declared.packet.Payload.the-variants.{Disc, Data}
+use Rattle.calculus.specs.declared.packet.Item.{Item}
+use Rattle.calculus.specs.declared.packet.Item.the-variants.{Wire, Out}
+use Rattle.calculus.specs.declared.request.Sender.{Sender}
+use Rattle.calculus.specs.declared.request.Sender.the-variants.{Client, Server}
+use Rattle.calculus.specs.declared.session.Row.{Row}
+use Rattle.calculus.specs.declared.session.Session.{Session}
+use Rattle.calculus.specs.declared.session.Stage.{Stage}
+use Rattle.calculus.specs.declared.effect.Effect.{Effect}
+use Rattle.calculus.specs.declared.state.Part.{Part}
+use Rattle.calculus.specs.declared.state.State.{State}
+use Rattle.calculus.specs.declared.state.Turn.{Turn}
+use Rattle.model.specs.Lists.{place}
+use Rattle.model.specs.Network.{given, isGateway, nextHop, routePlace}
+use Rattle.model.specs.Packet.{bare}
+use Rattle.model.specs.Item.{isWait, isDataItem, howManyItems}
+use Rattle.model.specs.Row.{held, raised, lowered, spiOf}
+use Rattle.model.specs.Rules.{rule}
+use Rattle.model.specs.State.{blankSlot, blankRow, load, store, isNumbered, putItem, placed, answerOf, applied}
+
+-- ---- refusals
+
+-- a test, and the refusal where it holds
+abbrev pub Check : Type 0
+Check = Bool × Refusal
+
+-- the first refusal whose test holds, or x
+unfoldable pub checked : {A : Type 0} → (Refusal → A) → List Check → A → A
+checked refuse [] x = x
+checked refuse (c ∷ cs) x = cond (c .0) (refuse (c .1)) (checked refuse cs x)
+
+-- a refused call "changes no state"
+abbrev pub refused : State → Refusal → Turn
+refused s r = record { state = s; answer = No r }
+
+-- ---- node and route
+
+abbrev pub accepted : State → Network → Turn
+accepted s n =
+    record {
+      state = record { opened = s .opened; network = n; sessions = s .sessions; items = s .items; rows = s .rows; users = s .users };
+      answer = Ok;
+    }
+
+abbrev pub withNode : Network → ℕ → Kind → List Bool → List Bool → Network
+withNode n a k has needs =
+    record { nodes = set (n .nodes) (a - 1) (record { given = true; kind = k; has = has; needs = needs }); routes = n .routes }
+
+abbrev pub withRoute : Network → ℕ → ℕ → ℕ → Network
+withRoute n a b next = record { nodes = n .nodes; routes = set (n .routes) (routePlace a b) next }
+
+-- node 5, 3
+unfoldable pub nodeTurn : State → ℕ → Kind → List Bool → List Bool → Turn
+nodeTurn s a k has needs =
+    checked (refused s) ((s .opened, Late) ∷ (given (s .network) a, Double) ∷ [])
+    (accepted s (withNode (s .network) a k has needs))
+
+abbrev pub isFound : NextHop → Bool
+isFound (Found next) = true
+isFound Missing = false
+
+-- route 5, 4, 8, 3
+unfoldable pub routeTurn : State → ℕ → ℕ → ℕ → Turn
+routeTurn s a b next =
+    checked (refused s)
+    ((s .opened, Late)
+    ∷ (not (given (s .network) a && (given (s .network) b && given (s .network) next)), Unknown)
+    ∷ (eqb a b || eqb a next, Same)
+    ∷ (isFound (nextHop (s .network) a b), Double)
+    ∷ [])
+    (accepted s (withRoute (s .network) a b next))
+
+-- ---- a session's requests: moves of its own part
+
+-- what becomes of the tables that sessions share: whether a session opens, the rows that went, the rows that came
+pub record Change : Type 0 where
+  pub opens : Bool
+  pub went : List Row
+  pub came : List Row
+
+pub data Move : Type 0 where
+  refuse : Refusal → Move
+  moved : Answer → Part → Change → Move
+
+abbrev pub noRows : Bool → Change
+noRows opens = record { opens = opens; went = []; came = [] }
+
+abbrev pub isUnused : Stage → Bool
+isUnused Stage.Unused = true
+isUnused Stage.SettingUp = false
+isUnused Stage.Open = false
+isUnused Stage.Denied = false
+
+abbrev pub unused : Part → Bool
+unused t = isUnused (t .session .stage)
+
+-- "last number above 999,998"
+abbrev pub spent : Part → Bool
+spent t = ltb 999998 (t .session .last)
+
+-- the next number
+abbrev pub nextNumber : Part → ℕ
+nextNumber t = t .session .last + 1
+
+-- the session at this stage and between these ends, with the item i written
+abbrev pub withItem : Part → Stage → ℕ → ℕ → Item → Part
+withItem t g c d i =
+    record {
+      session = record { stage = g; client = c; server = d; begun = t .session .begun; rows = t .session .rows; last = nextNumber t };
+      items = putItem (t .items) (nextNumber t) i;
+      rows = t .rows;
+    }
+
+abbrev pub madeNext : Part → Answer
+madeNext t = Made (record { 0 = nextNumber t })
+
+-- "open u c d: stage setting up; writes wire(c, Disc(c) from c to d, 32)"
+unfoldable pub opening : Part → ℕ → ℕ → Part
+opening t c d = withItem t Stage.SettingUp c d (Wire c (bare c d (Disc c)) 32)
+
+-- open 6, 4, 8, 9, 10
+unfoldable pub openMove : Network → ℕ → ℕ → Part → Move
+openMove n c d t =
+    checked refuse
+    ((not (unused t), Taken)
+    ∷ (not (given n c && given n d), Unknown)
+    ∷ (eqb c d, Same)
+    ∷ (isGateway n c || isGateway n d, refusal.Gateway)
+    ∷ (spent t, Spent)
+    ∷ [])
+    (moved (madeNext t) (opening t c d) (noRows true))
+
+-- the effect f of the item at place `at`
+unfoldable pub stepped : Part → ℕ → Effect → Move
+stepped t at f =
+    moved (answerOf (t .session .last) (f .outcome)) (applied t at f)
+    (record { opens = false; went = []; came = placed (t .session .rows) (f .added) })
+
+-- step 7, 11, 12, 10: the item stands at place `at`, or at no place where it is not pending
+unfoldable pub stepAt : Network → (ℕ → ℕ → Bool) → Part → ℕ → Move
+stepAt n standing t at =
+    let i = getD (t .items) at blankSlot .item in
+    checked refuse ((unused t, Idle) ∷ (leb 16 at, NoItem) ∷ (isWait i, Waiting) ∷ (spent t, Spent) ∷ [])
+    (stepped t at (rule n standing t i))
+
+-- "step u k"
+unfoldable pub stepMove : Network → (ℕ → ℕ → Bool) → ℕ → Part → Move
+stepMove n standing k t = stepAt n standing t (place (isNumbered k) (t .items))
+
+-- "out(c, Data from c to d); with 1, out(d, Data from d to c)"
+abbrev pub dataItem : Session → Sender → ℕ → Item
+dataItem s Client tag = Out (s .client) (bare (s .client) (s .server) (Data tag))
+dataItem s Server tag = Out (s .server) (bare (s .server) (s .client) (Data tag))
+
+unfoldable pub sending : Part → Sender → ℕ → Part
+sending t w tag = withItem t (t .session .stage) (t .session .client) (t .session .server) (dataItem (t .session) w tag)
+
+-- send 7, 13, 10
+unfoldable pub sendMove : Sender → ℕ → Part → Move
+sendMove w tag t =
+    checked refuse ((unused t, Idle) ∷ (leb 12 (howManyItems isDataItem (t .items)), Full) ∷ (spent t, Spent) ∷ [])
+    (moved (madeNext t) (sending t w tag) (noRows false))
+
+-- "close u: its items and rows go; none begun; stage unused"
+unfoldable pub closing : Part → Part
+closing t =
+    record {
+      session = record { stage = Stage.Unused; client = 0; server = 0; begun = 0; rows = 0; last = t .session .last };
+      items = replicate 16 blankSlot;
+      rows = replicate 32 blankRow;
+    }
+
+-- close 7
+unfoldable pub closeMove : Part → Move
+closeMove t =
+    checked refuse ((unused t, Idle) ∷ []) (moved Closed (closing t) (record { opens = false; went = held t; came = [] }))
+
+-- ---- a move made
+
+unfoldable pub changed : State → Change → State
+changed s c =
+    record {
+      opened = c .opens || s .opened;
+      network = s .network;
+      sessions = s .sessions;
+      items = s .items;
+      rows = s .rows;
+      users = raised (lowered (s .users) (c .went)) (c .came);
+    }
+
+unfoldable pub performed : State → ℕ → Move → Turn
+performed s u (refuse r) = refused s r
+performed s u (moved a t c) = record { state = store (changed s c) u t; answer = a }
+
+-- what session u's request does, that is this function of its part
+abbrev pub inSession : State → ℕ → (Part → Move) → Turn
+inSession s u f = performed s u (f (load s u))
+
+-- ---- show
+
+-- the lines of a's associations with the peers q, q + 1, .., whose users are l: of those that stand
+unfoldable pub peerLines : Bool → ℕ → ℕ → List ℕ → List Answer
+peerLines out a q [] = []
+peerLines out a q (n ∷ l) =
+    let more = peerLines out a (q + 1) l in
+    cond (ltb 0 n) (Assoc a out q (spiOf out a q) n ∷ more) more
+
+-- the lines of k nodes from a on, whose users are l: in, then out, each by peer
+unfoldable pub nodeLines : ℕ → ℕ → List ℕ → List Answer
+nodeLines zero a l = []
+nodeLines (suc k) a l =
+    peerLines false a 1 (take 32 l) ++ (peerLines true a 1 (take 32 (drop 32 l)) ++ nodeLines k (a + 1) (drop 64 l))
+
+-- "one line for each standing association, no other", as Show states; "then (end)"
+unfoldable pub shown : List ℕ → List Answer
+shown l = nodeLines 32 1 l ++ (End ∷ [])

@@ -1,0 +1,118 @@
+-- What a row means: the packets that it matches, the association that it names, the users that it stands for. Assumes nothing.
+use Prim.Native.Nat.{ℕ, _+_, _*_, _-_}
+use mathlib.Core.Bool.{Bool, true, false, cond, not, _&&_}
+use mathlib.Core.List.{List}
+use lib.Dec.{ltb, eqb}
+use lib.ListN.{getD, set, take}
+use Rattle.calculus.specs.Number.{isNode, spi}
+use Rattle.calculus.specs.declared.number.Spi.{Spi}
+use Rattle.calculus.specs.declared.packet.Payload.{Payload}
+use Rattle.calculus.specs.declared.packet.Payload.the-variants.{Req, Rep, Disc, Done, Data}
+use Rattle.calculus.specs.declared.packet.Packet.{Packet}
+use Rattle.calculus.specs.declared.packet.Via.{Via}
+use Rattle.calculus.specs.declared.packet.Via.the-variants.{Untunnelled, Peer}
+use Rattle.calculus.specs.declared.session.Row.{Row}
+use Rattle.calculus.specs.declared.state.Part.{Part}
+use Rattle.model.specs.Lists.{fold, tally}
+
+-- a session's rows, the oldest first
+abbrev pub held : Part → List Row
+held t = take (t .session .rows) (t .rows)
+
+-- an out row and an in row at a, with the filter (from, to), peer q, of establishment e
+abbrev pub outRow : ℕ → ℕ → ℕ → ℕ → ℕ → Row
+outRow a from to q e = record { node = a; out = true; source = from; destination = to; peer = q; establishment = e }
+
+abbrev pub inRow : ℕ → ℕ → ℕ → ℕ → ℕ → Row
+inRow a from to q e = record { node = a; out = false; source = from; destination = to; peer = q; establishment = e }
+
+-- ---- match
+
+-- both are out, or both are in
+abbrev pub sameWay : Bool → Bool → Bool
+sameWay true y = y
+sameWay false y = not y
+
+-- "for Req(e) and Rep(e), rows of that same e are skipped"
+abbrev pub skips : Payload → ℕ → Bool
+skips (Req e) f = eqb e f
+skips (Rep e) f = eqb e f
+skips (Disc p) f = false
+skips Done f = false
+skips (Data tag) f = false
+
+-- the row is at the node, in the direction, its filter equals the packet's source and destination, and it is not skipped
+abbrev pub fits : Bool → ℕ → Packet → Row → Bool
+fits out a p r =
+    sameWay (r .out) out
+    && eqb (r .node) a
+    && eqb (r .source) (p .source)
+    && eqb (r .destination) (p .destination)
+    && not (skips (p .payload) (r .establishment))
+
+abbrev pub newer : Bool → ℕ → Packet → Via → Row → Via
+newer out a p best r = cond (fits out a p r) (Peer (r .peer)) best
+
+-- match: the peer of the newest row that fits, the rows being in order of age
+abbrev pub newest : List Row → Bool → ℕ → Packet → Via
+newest rows out a p = fold (newer out a p) Untunnelled rows
+
+-- ---- the association that a row names
+
+-- "A row at a with peer q names In(a, q) or Out(a, q), by its direction."
+abbrev pub names : Bool → ℕ → ℕ → Row → Bool
+names out a q r = sameWay (r .out) out && (eqb (r .node) a && eqb (r .peer) q)
+
+-- the SPI of In(a, q), or of Out(a, q)
+abbrev pub spiOf : Bool → ℕ → ℕ → Spi
+spiOf true a q = spi q a
+spiOf false a q = spi a q
+
+-- ---- users
+
+-- how many of the rows name the association
+unfoldable pub howMany : Bool → ℕ → ℕ → List Row → ℕ
+howMany out a q rows = tally (names out a q) rows
+
+-- "an in row of this session at a has peer q"
+unfoldable pub admits : List Row → ℕ → ℕ → Bool
+admits rows a q = ltb 0 (howMany false a q rows)
+
+-- the place of an association's users: in the order node, in before out, peer
+abbrev pub usersPlace : Bool → ℕ → ℕ → ℕ
+usersPlace out a q = 64 * (a - 1) + cond out 32 0 + (q - 1)
+
+abbrev pub areNodes : ℕ → ℕ → Bool
+areNodes a q = isNode a && isNode q
+
+-- the users stored of In(a, q), or of Out(a, q); 0 unless a and q are both nodes
+unfoldable pub usersOf : List ℕ → Bool → ℕ → ℕ → ℕ
+usersOf l out a q = cond (areNodes a q) (getD l (usersPlace out a q) 0) 0
+
+-- "An association stands while its users are above 0."
+abbrev pub stands : List ℕ → Bool → ℕ → ℕ → Bool
+stands l out a q = ltb 0 (usersOf l out a q)
+
+-- the association that the row names stands
+abbrev pub rowStands : List ℕ → Row → Bool
+rowStands l r = stands l (r .out) (r .node) (r .peer)
+
+-- the users of the association that the row names, changed by f
+unfoldable pub withUsers : (ℕ → ℕ) → List ℕ → Row → List ℕ
+withUsers f l r =
+    let at = usersPlace (r .out) (r .node) (r .peer) in
+    cond (areNodes (r .node) (r .peer)) (set l at (f (getD l at 0))) l
+
+-- "a row added .. raises them by one"; the table holds 65,535 at most
+abbrev pub oneMore : ℕ → ℕ
+oneMore n = cond (ltb n 65535) (n + 1) n
+
+-- "a row removed lowers them by one"
+abbrev pub oneLess : ℕ → ℕ
+oneLess n = n - 1
+
+abbrev pub raised : List ℕ → List Row → List ℕ
+raised l rows = fold (withUsers oneMore) l rows
+
+abbrev pub lowered : List ℕ → List Row → List ℕ
+lowered l rows = fold (withUsers oneLess) l rows
