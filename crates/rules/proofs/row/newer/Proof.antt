@@ -1,0 +1,14 @@
+-- `row::newer` meets its contract. Assumes nothing.
+use borrow.Author.Needs.{needs}
+use Rattle.calculus.proofs.Tests.{join}
+use Rattle.rules.proofs.row.newer.Statement.{statement}
+use Rattle.rules.proofs.row.newer.Tie as tie
+
+returns : tie.Need-returns
+returns c = simp (join (c .before .fits2 .ensures) (c .if1 .taken))
+
+returns-2 : tie.Need-returns-2
+returns-2 c = simp (join (c .before .fits2 .ensures) (c .if1 .left))
+
+pub newer-spec : {M : Type 1} → statement M
+newer-spec = tie.close (tie.spec (λ c κs. search needs) returns returns-2)

@@ -1,0 +1,99 @@
+// The rules of an establishment: est, auth, grant, ack.
+use crate::effect::only;
+use crate::effect::writes;
+use crate::effect::writes_for;
+use crate::effect::writes_rows;
+use crate::packet::bare;
+use crate::row::in_row;
+use crate::row::out_row;
+use calculus::effect::Effect;
+use calculus::effect::Outcome;
+use calculus::effect::Wait;
+use calculus::packet::Item;
+use calculus::packet::Payload;
+use calculus::packet::Side;
+use calculus::session::Session;
+ghost use mathlib.Core.Path.{_≡_};
+ghost use Rattle.model.specs.Rules as spec;
+
+// est(a, b, e)
+pub fn est(a: u8, b: u8, e: u8) -> Effect
+    ensures { λ r. ⌜ r ≡ spec.estRule a b e ⌝ }
+{
+    let packet = bare(a, b, Payload::Req(e));
+    only(Outcome::WroteTwo(
+        Item::Out { node: a, packet },
+        Item::Ewait {
+            node: a,
+            establishment: e,
+        },
+    ))
+}
+
+// auth(a, q, e, side), where `enough` tells whether q has all that a needs
+pub fn auth(enough: bool, a: u8, q: u8, e: u8, side: Side) -> Effect
+    ensures { λ r. ⌜ r ≡ spec.authRule enough a q e side ⌝ }
+{
+    if enough {
+        return writes(Item::Grant {
+            node: a,
+            peer: q,
+            establishment: e,
+            side,
+        });
+    }
+    only(Outcome::Denied)
+}
+
+// grant(a, q, e, side)
+pub fn grant(s: Session, a: u8, q: u8, e: u8, side: Side) -> Effect
+    ensures { λ r. ⌜ r ≡ spec.grantRule s a q e side ⌝ }
+{
+    match side {
+        Side::Responder => {
+            let older = out_row(a, s.client, s.server, q, e);
+            let newer = in_row(a, s.server, s.client, q, e);
+            let packet = bare(a, q, Payload::Rep(e));
+            writes_rows(older, newer, Item::Out { node: a, packet })
+        }
+        Side::Initiator => {
+            let older = out_row(a, s.server, s.client, q, e);
+            let newer = in_row(a, s.client, s.server, q, e);
+            writes_rows(
+                older,
+                newer,
+                Item::Ack {
+                    node: a,
+                    establishment: e,
+                },
+            )
+        }
+    }
+}
+
+// What an ack at `a` writes.
+fn acknowledged(s: Session, a: u8) -> Item
+    ensures { λ r. ⌜ r ≡ spec.acknowledged s a ⌝ }
+{
+    if a == s.server {
+        let done = bare(s.server, s.client, Payload::Done);
+        return Item::Out {
+            node: a,
+            packet: done,
+        };
+    }
+    let disc = bare(s.client, s.server, Payload::Disc(a));
+    Item::Wire {
+        node: a,
+        packet: disc,
+        hops: 32,
+    }
+}
+
+// ack(a, e)
+pub fn ack(s: Session, a: u8) -> Effect
+    ensures { λ r. ⌜ r ≡ spec.ackRule s a ⌝ }
+{
+    let item = acknowledged(s, a);
+    writes_for(Wait::Discovery(a), item)
+}

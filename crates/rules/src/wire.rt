@@ -1,0 +1,140 @@
+// The rule wire.
+use crate::effect::lost;
+use crate::effect::writes;
+use crate::packet::is_bare;
+use crate::packet::is_data_or_done;
+use crate::packet::target;
+use calculus::answer::Loss;
+use calculus::effect::Added;
+use calculus::effect::Begins;
+use calculus::effect::Effect;
+use calculus::effect::Outcome;
+use calculus::effect::Wait;
+use calculus::network::NextHop;
+use calculus::packet::Item;
+use calculus::packet::Packet;
+use calculus::packet::Payload;
+use calculus::session::Session;
+ghost use mathlib.Core.Path.{_≡_};
+ghost use Prim.Native.Nat.{_-_};
+ghost use lib.Dec.{eqb};
+ghost use Rattle.model.specs.Packet as packet;
+ghost use Rattle.model.specs.Rules as spec;
+
+// Whether a Disc is met at `a`: a gateway or the server, and not its last tunnel point.
+fn discovers(gateway: bool, server: u8, a: u8, y: Payload) -> bool
+    ensures { λ r. ⌜ r ≡ spec.discovers gateway server a y ⌝ }
+{
+    match y {
+        Payload::Req(_) => false,
+        Payload::Rep(_) => false,
+        Payload::Disc(p) => {
+            if a == p {
+                return false;
+            }
+            if gateway {
+                return true;
+            }
+            a == server
+        }
+        Payload::Done => false,
+        Payload::Data(_) => false,
+    }
+}
+
+fn last_point(y: Payload) -> u8
+    ensures { λ r. ⌜ r ≡ spec.lastPoint y ⌝ }
+{
+    match y {
+        Payload::Req(_) => 0,
+        Payload::Rep(_) => 0,
+        Payload::Disc(p) => p,
+        Payload::Done => 0,
+        Payload::Data(_) => 0,
+    }
+}
+
+fn begin(a: u8, p: u8, e: u8) -> Effect
+    ensures { λ r. ⌜ r ≡ spec.begin a p e ⌝ }
+{
+    Effect {
+        outcome: Outcome::WroteTwo(
+            Item::Dwait { node: a },
+            Item::Est {
+                node: a,
+                peer: p,
+                establishment: e,
+            },
+        ),
+        wait: Wait::NoWait,
+        added: Added::NoRows,
+        begins: Begins::Next(e),
+    }
+}
+
+fn unprotected(gateway: bool, p: Packet) -> bool
+    ensures { λ r. ⌜ r ≡ spec.unprotected gateway p ⌝ }
+{
+    let header = p.header;
+    let payload = p.payload;
+    if gateway {
+        if is_bare(header) {
+            return is_data_or_done(payload);
+        }
+    }
+    false
+}
+
+fn before(n: u8) -> u8
+    ensures { λ r. ⌜ r ≡ n - 1 ⌝ }
+{
+    if n == 0 { 0 } else { n - 1 }
+}
+
+fn onward(next: NextHop, p: Packet, hops: u8) -> Effect
+    ensures { λ r. ⌜ r ≡ spec.onward next p hops ⌝ }
+{
+    match next {
+        NextHop::Missing => lost(Loss::NoRoute),
+        NextHop::Found(node) => {
+            let left = before(hops);
+            writes(Item::Wire {
+                node,
+                packet: p,
+                hops: left,
+            })
+        }
+    }
+}
+
+// Whether the packet has come to where it goes.
+fn arrived(a: u8, p: Packet) -> bool
+    ensures { λ r. ⌜ r ≡ eqb a (packet.target p) ⌝ }
+{
+    let t = target(p);
+    a == t
+}
+
+// wire(a, packet, h), where `gateway` tells whether a is one and `next` is the route from a to the packet's target.
+pub fn wire(gateway: bool, next: NextHop, s: Session, a: u8, p: Packet, h: u8) -> Effect
+    ensures { λ r. ⌜ r ≡ spec.wireRule gateway next s a p h ⌝ }
+{
+    let payload = p.payload;
+    if discovers(gateway, s.server, a, payload) {
+        if 8 <= s.begun {
+            return lost(Loss::Exhausted);
+        }
+        let point = last_point(payload);
+        return begin(a, point, s.begun + 1);
+    }
+    if arrived(a, p) {
+        return writes(Item::Up { node: a, packet: p });
+    }
+    if unprotected(gateway, p) {
+        return lost(Loss::Unprotected);
+    }
+    if h == 0 {
+        return lost(Loss::HopLimit);
+    }
+    onward(next, p, h)
+}
