@@ -32,6 +32,7 @@ pub enum Begins {
     Next(u8),
 }
 
+// All that a step does to its session, but the numbers: those follow from how many items it writes.
 pub struct Effect {
     pub outcome: Outcome,
     pub wait: Wait,

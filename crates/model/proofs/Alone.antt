@@ -13,7 +13,7 @@ use Rattle.calculus.specs.declared.state.Part.{Part}
 use Rattle.calculus.specs.declared.state.State.{State}
 use Rattle.model.specs.State.{load}
 use Rattle.model.specs.Calls.{Reply, Call, call, after, replies, givesNetwork, isOwn, own, repliesTo}
-use Rattle.model.specs.Noninterference.{Heard, heard, numberOf, numbersInAll, issued}
+use Rattle.model.specs.Noninterference.{Observed, observed, numberOf, numbersInAll, issued}
 use Rattle.model.proofs.Parts.{Numbered}
 use Rattle.model.proofs.Counted.{Good}
 use Rattle.model.proofs.Local.{Seen, seen, local, call-own}
@@ -83,14 +83,14 @@ unfolding own
 own-plain u [] p = tt
 own-plain u (c ∷ cs) p = either Plain (isOwn u c) (λ e. (p .0, own-plain u cs (p .1))) (λ e. own-plain u cs (p .1))
 
--- ---- seen, heard and issued
+-- ---- seen, observed and issued
 
-abbrev heardIn : Seen → Heard
-heardIn x = record { lines = joined (map answerText (x .answers)); number = numberOf (x .refusal) }
+abbrev observedIn : Seen → Observed
+observedIn x = record { lines = joined (map answerText (x .answers)); number = numberOf (x .refusal) }
 
-heard-seen : (u : ℕ) (l : List Reply) → map heard l ≡ map heardIn (map (seen u) l)
-heard-seen u [] = refl
-heard-seen u (r ∷ l) = ap (λ (x : List Heard). heard r ∷ x) (heard-seen u l)
+observed-seen : (u : ℕ) (l : List Reply) → map observed l ≡ map observedIn (map (seen u) l)
+observed-seen u [] = refl
+observed-seen u (r ∷ l) = ap (λ (x : List Observed). observed r ∷ x) (observed-seen u l)
 
 unfoldable issuedIn : List Seen → List ℕ
 issuedIn [] = []
@@ -118,7 +118,7 @@ local-numbers n (c ∷ cs) t =
 -- ---- the three together
 
 pub record Alone (u : ℕ) (s : State) (cs : List Call) : Type 0 where
-  pub answers : map heard (repliesTo u s cs) ≡ map heard (replies s (own u cs))
+  pub answers : map observed (repliesTo u s cs) ≡ map observed (replies s (own u cs))
   pub part : load (after s cs) u ≡ load (after s (own u cs)) u
   pub numbers : load s u .session .last ≡ 0 → issued (repliesTo u s cs) ≡ upFrom 0 (load (after s cs) u .session .last)
 
@@ -130,10 +130,10 @@ alone u hu cs s g p =
     let l = local-numbers (s .network) (own u cs) (load s u) in
     record {
       answers =
-          heard-seen u (repliesTo u s cs)
-          ∙ ap (map heardIn) (a .seen ∙ sym (rw e at (b .seen)))
-          ∙ sym (heard-seen u (repliesTo u s (own u cs)))
-          ∙ ap (map heard) (own-replies u cs s);
+          observed-seen u (repliesTo u s cs)
+          ∙ ap (map observedIn) (a .seen ∙ sym (rw e at (b .seen)))
+          ∙ sym (observed-seen u (repliesTo u s (own u cs)))
+          ∙ ap (map observed) (own-replies u cs s);
       part = a .part ∙ sym (rw e at (b .part));
       numbers = λ z.
           issued-seen u (repliesTo u s cs) ∙ ap issuedIn (a .seen) ∙ l .carried

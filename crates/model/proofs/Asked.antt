@@ -24,7 +24,7 @@ use Rattle.model.specs.Row.{stands}
 use Rattle.model.specs.Requests.{Move, refuse, openMove, stepMove, sendMove, closeMove, performed}
 use Rattle.model.specs.State.{load}
 use Rattle.model.proofs.Checks.{either, IsWritten}
-use Rattle.model.specs.Calls.{said, requested, formGivesNetwork, formNames}
+use Rattle.model.specs.Calls.{oneAnswer, requested, formGivesNetwork, formNames}
 
 -- the session of a request, 0 if it has none
 abbrev pub sessionIn : request.Request → ℕ
@@ -63,7 +63,7 @@ abbrev pub moveIn : State → ℕ → request.Request → Move
 moveIn s u q = ownMove (s .network) (stands (s .users) false) q (load s u)
 
 pub requested-own : (s : State) (x y : List Bool) (q : request.Request) → isSession (sessionIn q) ≡ true
-    → requested s x y q ≡ said (performed s (sessionIn q) (moveIn s (sessionIn q) q))
+    → requested s x y q ≡ oneAnswer (performed s (sessionIn q) (moveIn s (sessionIn q) q))
 unfolding requested
 requested-own s x y (Node a k) e = never e
 requested-own s x y (Route a b n) e = never e

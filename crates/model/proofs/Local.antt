@@ -35,7 +35,7 @@ use Rattle.model.specs.Row.{held, admits, areNodes, usersOf, stands}
 use Rattle.model.specs.Rules.{writes, lost, upWith, upRule, headerStands, rule}
 use Rattle.model.specs.State.{load}
 use Rattle.model.specs.Requests.{Move, refuse, moved, stepAt, stepMove, performed}
-use Rattle.model.specs.Calls.{Reply, Call, call, answered, repliedTo, refusalIn, said, short, formNames, isOwn}
+use Rattle.model.specs.Calls.{Reply, Call, call, answered, repliedTo, refusalIn, oneAnswer, short, formNames, isOwn}
 use Rattle.model.proofs.Parts.{Numbered, load-whole}
 use Rattle.model.proofs.Users.{admits-some}
 use Rattle.model.proofs.Moves.{FairMove, fair-open, fair-step, fair-send, fair-close}
@@ -126,7 +126,7 @@ local n t c =
     (seenParsed n t (asked (read (c .line)) .parsed))
 
 module _ (s : State) (g : Good s) (u : ℕ) (hu : Numbered u) where
-  pub performed-own : (m : Move) → FairMove (load s u) m → seen u (said (performed s u m)) ≡ seenMove (load s u) m
+  pub performed-own : (m : Move) → FairMove (load s u) m → seen u (oneAnswer (performed s u m)) ≡ seenMove (load s u) m
   unfolding performed
   performed-own (refuse r) f = refl
   performed-own (moved a t c) f = rw (stored-own s (g .sized) u hu t (f .whole) c)
@@ -141,7 +141,7 @@ module _ (s : State) (g : Good s) (u : ℕ) (hu : Numbered u) where
   performed-good (refuse r) f = g
   performed-good (moved a t c) f = stored-good s g u hu t c f
 
-  own-seen : (q : request.Request) → seen u (said (performed s u (moveIn s u q))) ≡ seenMove (load s u) (ownMove (s .network) areNodes q (load s u))
+  own-seen : (q : request.Request) → seen u (oneAnswer (performed s u (moveIn s u q))) ≡ seenMove (load s u) (ownMove (s .network) areNodes q (load s u))
   own-seen q =
       performed-own (moveIn s u q) (fair-own s g u hu q)
       ∙ ap (seenMove (load s u)) (move-same (s .network) (stands (s .users) false) (load s u) (in-row-stands s g u hu) q)
@@ -154,7 +154,7 @@ module _ (s : State) (g : Good s) (u : ℕ) (hu : Numbered u) where
   asked-seen o e r (givesRoute a b next i n) = never (sym (not-own u o n) ∙ e)
   asked-seen o e r (ofSession q i h) =
       let w : sessionIn q ≡ u = eqb-true (sessionIn q) u (sym (h u) ∙ e) in
-      ap (seen u) (requested-own s _ _ q i ∙ ap (λ (v : ℕ). said (performed s v (moveIn s v q))) w) ∙ own-seen q
+      ap (seen u) (requested-own s _ _ q i ∙ ap (λ (v : ℕ). oneAnswer (performed s v (moveIn s v q))) w) ∙ own-seen q
   asked-seen o e r (shows h) = never (sym (h u) ∙ e)
 
   pub call-own : (c : Call) → isOwn u c ≡ true → seen u (call s c) ≡ local (s .network) (load s u) c

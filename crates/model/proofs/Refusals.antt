@@ -25,8 +25,8 @@ use Rattle.forms.specs.Request.{asked}
 use Rattle.model.specs.State.{answerOf}
 use Rattle.model.specs.Requests.{refused, nodeTurn, routeTurn, Move, refuse, moved, openMove, stepped, stepAt, stepMove, sendMove, closeMove, performed}
 use Rattle.model.specs.Row.{stands}
-use Rattle.model.specs.Calls.{answered, requested, repliedTo, refusalIn, said}
-use Rattle.model.specs.Refusals.{isOneLine, Settled, refusedWith, answeredWith, shownWith, Refusals}
+use Rattle.model.specs.Calls.{answered, requested, repliedTo, refusalIn, oneAnswer}
+use Rattle.model.specs.Refusals.{isOneLine, CanReply, refusedWith, answeredWith, shownWith, Refusals}
 use Rattle.model.proofs.Checks.{either, IsWritten, checked-written}
 use Rattle.model.proofs.Asked.{ownMove, own-cases, requested-own, Meaning, refuses, givesNode, givesRoute, ofSession, shows, meaning}
 
@@ -45,15 +45,15 @@ one-line (No r) e = never e
 one-line (Assoc a out q spi users) e = refl
 one-line End e = refl
 
-said-answer : (s : State) (t : Turn) → isOneLine (t .answer) ≡ true → Settled s (said t)
-said-answer s t e = rw (one-line (t .answer) e) (answeredWith (t .state) (t .answer) e)
+answer-replies : (s : State) (t : Turn) → isOneLine (t .answer) ≡ true → CanReply s (oneAnswer t)
+answer-replies s t e = rw (one-line (t .answer) e) (answeredWith (t .state) (t .answer) e)
 
-said-refusal : (s : State) (r : Refusal) → IsWritten r → Settled s (said (refused s r))
-said-refusal s r w =
-    subst (λ (l : List Answer). Settled s (record { state = s; answers = l; refusal = some r })) (rw w) (refusedWith r)
+refusal-replies : (s : State) (r : Refusal) → IsWritten r → CanReply s (oneAnswer (refused s r))
+refusal-replies s r w =
+    subst (λ (l : List Answer). CanReply s (record { state = s; answers = l; refusal = some r })) (rw w) (refusedWith r)
 
 abbrev Says : State → Turn → Type 0
-Says s t = Settled s (said t)
+Says s t = CanReply s (oneAnswer t)
 
 -- ---- a session's move
 
@@ -85,26 +85,26 @@ move-answers n standing q t =
 
 performed-says : (s : State) (u : ℕ) (m : Move) → Answers m → Says s (performed s u m)
 unfolding performed
-performed-says s u (refuse r) w = said-refusal s r w
-performed-says s u (moved a t c) e = said-answer s _ e
+performed-says s u (refuse r) w = refusal-replies s r w
+performed-says s u (moved a t c) e = answer-replies s _ e
 
 -- ---- a call
 
-asked-settled : (s : State) (o : Option Form) (r : Reading) → Meaning o r → Settled s (repliedTo s r)
+asked-replies : (s : State) (o : Option Form) (r : Reading) → Meaning o r → CanReply s (repliedTo s r)
 unfolding requested nodeTurn routeTurn
-asked-settled s o r (refuses x w) = said-refusal s x w
-asked-settled s o r (givesNode a k has needs n) =
-    checked-written (Says s) (refused s) (said-refusal s) _ (refl, (refl, tt)) (said-answer s _ refl)
-asked-settled s o r (givesRoute a b next i n) =
-    checked-written (Says s) (refused s) (said-refusal s) _ (refl, (refl, (refl, (refl, tt)))) (said-answer s _ refl)
-asked-settled s o r (ofSession q i h) =
-    subst (Settled s) (sym (requested-own s _ _ q i)) (performed-says s _ _ (move-answers (s .network) (stands (s .users) false) q _))
-asked-settled s o r (shows h) = shownWith
+asked-replies s o r (refuses x w) = refusal-replies s x w
+asked-replies s o r (givesNode a k has needs n) =
+    checked-written (Says s) (refused s) (refusal-replies s) _ (refl, (refl, tt)) (answer-replies s _ refl)
+asked-replies s o r (givesRoute a b next i n) =
+    checked-written (Says s) (refused s) (refusal-replies s) _ (refl, (refl, (refl, (refl, tt)))) (answer-replies s _ refl)
+asked-replies s o r (ofSession q i h) =
+    subst (CanReply s) (sym (requested-own s _ _ q i)) (performed-says s _ _ (move-answers (s .network) (stands (s .users) false) q _))
+asked-replies s o r (shows h) = shownWith
 
 pub refusals : Refusals
 unfolding answered
 refusals =
     record {
-      settled = λ s line size.
-          either (Settled s) (ltb size 65536) (λ e. refusedWith Short) (λ e. asked-settled s (read line) (asked (read line)) (meaning (read line)));
+      each = λ s line size.
+          either (CanReply s) (ltb size 65536) (λ e. refusedWith Short) (λ e. asked-replies s (read line) (asked (read line)) (meaning (read line)));
     }

@@ -46,8 +46,8 @@ refusalIn (Assoc a out q spi users) = none
 refusalIn End = none
 
 -- one answer
-abbrev pub said : Turn → Reply
-said t = record { state = t .state; answers = t .answer ∷ []; refusal = refusalIn (t .answer) }
+abbrev pub oneAnswer : Turn → Reply
+oneAnswer t = record { state = t .state; answers = t .answer ∷ []; refusal = refusalIn (t .answer) }
 
 -- refusal 0: "nothing written"
 abbrev pub short : State → Reply
@@ -55,18 +55,18 @@ short s = record { state = s; answers = []; refusal = some Short }
 
 -- a request with its credentials, if it is a node's
 unfoldable pub requested : State → List Bool → List Bool → request.Request → Reply
-requested s has needs (Node a k) = said (nodeTurn s a k has needs)
-requested s has needs (Route a b n) = said (routeTurn s a b n)
-requested s has needs (Open u c d) = said (inSession s (u .0) (openMove (s .network) c d))
-requested s has needs (Step u k) = said (inSession s (u .0) (stepMove (s .network) (stands (s .users) false) (k .0)))
-requested s has needs (Send u w tag) = said (inSession s (u .0) (sendMove w tag))
-requested s has needs (Close u) = said (inSession s (u .0) closeMove)
+requested s has needs (Node a k) = oneAnswer (nodeTurn s a k has needs)
+requested s has needs (Route a b n) = oneAnswer (routeTurn s a b n)
+requested s has needs (Open u c d) = oneAnswer (inSession s (u .0) (openMove (s .network) c d))
+requested s has needs (Step u k) = oneAnswer (inSession s (u .0) (stepMove (s .network) (stands (s .users) false) (k .0)))
+requested s has needs (Send u w tag) = oneAnswer (inSession s (u .0) (sendMove w tag))
+requested s has needs (Close u) = oneAnswer (inSession s (u .0) closeMove)
 requested s has needs Show = record { state = s; answers = shown (s .users); refusal = none }
 
 -- "every call 0, 1, 2": 1 and 2 are the reading's
 abbrev pub replied : State → List Bool → List Bool → Parsed → Reply
 replied s has needs (Asks q) = requested s has needs q
-replied s has needs (Refused r) = said (refused s r)
+replied s has needs (Refused r) = oneAnswer (refused s r)
 
 abbrev pub repliedTo : State → Reading → Reply
 repliedTo s r = replied s (r .has) (r .needs) (r .parsed)

@@ -25,7 +25,7 @@ use Rattle.model.specs.Calls.{Call, Reply, linesOf, after, replies, give
 -- ---- an answer
 
 -- "An answer is the lines written and, if refused, the number returned."
-pub record Heard : Type 0 where
+pub record Observed : Type 0 where
   pub lines : List ℕ
   pub number : Option ℕ
 
@@ -33,8 +33,8 @@ abbrev pub numberOf : Option Refusal → Option ℕ
 numberOf (some r) = some (refusalNumber r)
 numberOf none = none
 
-abbrev pub heard : Reply → Heard
-heard r = record { lines = linesOf r; number = numberOf (r .refusal) }
+abbrev pub observed : Reply → Observed
+observed r = record { lines = linesOf r; number = numberOf (r .refusal) }
 
 -- the numbers that an answer carries in `(made ..)`
 abbrev pub numbersIn : Answer → List ℕ
@@ -106,7 +106,7 @@ rowsNaming out a q s (u ∷ us) = howMany out a q (held (load s u)) + rowsNaming
 -- for session u, where the list cs follows the network's calls, which left `start`
 pub record Noninterferes (start : State) (cs : List Call) (u : ℕ) : Type 0 where
   -- u's answers in the whole list are those of its own calls alone
-  pub answers : map heard (repliesTo u start cs) ≡ map heard (replies start (own u cs))
+  pub answers : map observed (repliesTo u start cs) ≡ map observed (replies start (own u cs))
   -- what u sees of itself after the whole list is what it sees after its own calls alone
   pub seen : view (after start cs) u ≡ view (after start (own u cs)) u
   -- the numbers issued to u are 1, 2, .. up to its last number

@@ -32,10 +32,10 @@ isOneLine (Assoc a out q spi users) = false
 isOneLine End = false
 
 -- what a call on the state s can reply
-pub data Settled (s : State) : Reply → Type 0 where
-  refusedWith : (r : Refusal) → Settled s (record { state = s; answers = refusalAnswers r; refusal = some r })
-  answeredWith : (s′ : State) (a : Answer) → isOneLine a ≡ true → Settled s (record { state = s′; answers = a ∷ []; refusal = none })
-  shownWith : Settled s (record { state = s; answers = shown (s .users); refusal = none })
+pub data CanReply (s : State) : Reply → Type 0 where
+  refusedWith : (r : Refusal) → CanReply s (record { state = s; answers = refusalAnswers r; refusal = some r })
+  answeredWith : (s′ : State) (a : Answer) → isOneLine a ≡ true → CanReply s (record { state = s′; answers = a ∷ []; refusal = none })
+  shownWith : CanReply s (record { state = s; answers = shown (s .users); refusal = none })
 
 pub record Refusals : Type 0 where
-  pub settled : (s : State) (line : List ℕ) (size : ℕ) → Settled s (answered s line size)
+  pub each : (s : State) (line : List ℕ) (size : ℕ) → CanReply s (answered s line size)
