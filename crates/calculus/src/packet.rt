@@ -37,55 +37,21 @@ pub enum Via {
     Peer(u8),
 }
 
-// What a session has pending, as document 01 names it. `Free` is a place with no item.
+// What a session has pending, each as document 01 writes it: wire(a, packet, h), out(a, packet), up(a, packet),
+// in(a, packet, q), est(a, b, e), auth(a, q, e, side), grant(a, q, e, side), ack(a, e), dwait(a), ewait(a, e).
+// `Free` is a place with no item.
 pub enum Item {
     Free,
-    Wire {
-        node: u8,
-        packet: Packet,
-        hops: u8,
-    },
-    Out {
-        node: u8,
-        packet: Packet,
-    },
-    Up {
-        node: u8,
-        packet: Packet,
-    },
-    In {
-        node: u8,
-        packet: Packet,
-        via: Via,
-    },
-    Est {
-        node: u8,
-        peer: u8,
-        establishment: u8,
-    },
-    Auth {
-        node: u8,
-        peer: u8,
-        establishment: u8,
-        side: Side,
-    },
-    Grant {
-        node: u8,
-        peer: u8,
-        establishment: u8,
-        side: Side,
-    },
-    Ack {
-        node: u8,
-        establishment: u8,
-    },
-    Dwait {
-        node: u8,
-    },
-    Ewait {
-        node: u8,
-        establishment: u8,
-    },
+    Wire(u8, Packet, u8),
+    Out(u8, Packet),
+    Up(u8, Packet),
+    In(u8, Packet, Via),
+    Est(u8, u8, u8),
+    Auth(u8, u8, u8, Side),
+    Grant(u8, u8, u8, Side),
+    Ack(u8, u8),
+    Dwait(u8),
+    Ewait(u8, u8),
 }
 
 // A place for an item, with the item's number.

@@ -10,7 +10,6 @@ use calculus::request::Sender;
 use forms::line::Line;
 use forms::line::next_line;
 use forms::read::Parsed;
-use forms::read::Reading;
 use forms::read::read;
 use forms::write::Written;
 use forms::write::write;

@@ -91,7 +91,7 @@ unfolding listText
 list-end = refl
 
 -- the longest: "(assoc 32 out 32 1279 65535)" and its newline
-line-width : (out : Bool) (a q n : ℕ) → a ≤ 32 → q ≤ 32 → n ≤ 65535 → length (answerText (Assoc a out q (spiOf out a q) n)) ≤ 29
+pub line-width : (out : Bool) (a q n : ℕ) → a ≤ 32 → q ≤ 32 → n ≤ 65535 → length (answerText (Assoc a out q (spiOf out a q) n)) ≤ 29
 unfolding answerText
 line-width out a q n ha hq hn =
     let v = spiOf out a q .0 in

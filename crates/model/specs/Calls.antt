@@ -1,4 +1,4 @@
--- One call, and a list of calls. The simulator's one entry will cite `answered`. Assumes nothing.
+-- One call, and a list of calls. `simulator::call::call` cites `answered`. Assumes nothing.
 use Prim.Native.Nat.{ℕ}
 use mathlib.Core.Bool.{Bool, true, false, cond}
 use mathlib.Core.List.{List, [], _∷_, _++_, map}

@@ -46,19 +46,9 @@ fn received(a: u8, b: u8, y: Payload) -> Effect
     ensures { λ r. ⌜ r ≡ spec.received a b y ⌝ }
 {
     match y {
-        Payload::Req(e) => writes(Item::Auth {
-            node: a,
-            peer: b,
-            establishment: e,
-            side: Side::Responder,
-        }),
+        Payload::Req(e) => writes(Item::Auth(a, b, e, Side::Responder)),
         Payload::Rep(e) => {
-            let item = Item::Auth {
-                node: a,
-                peer: b,
-                establishment: e,
-                side: Side::Initiator,
-            };
+            let item = Item::Auth(a, b, e, Side::Initiator);
             writes_for(Wait::Establishment(a, e), item)
         }
         Payload::Disc(_) => lost(Loss::WrongTunnel),
@@ -76,7 +66,7 @@ pub fn enter(rows: [Row; 32], held: u8, a: u8, p: Packet, via: Via) -> Effect
         if p.destination == a {
             return received(a, p.source, payload);
         }
-        return writes(Item::Out { node: a, packet: p });
+        return writes(Item::Out(a, p));
     }
     lost(Loss::WrongTunnel)
 }

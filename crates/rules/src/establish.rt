@@ -21,13 +21,7 @@ pub fn est(a: u8, b: u8, e: u8) -> Effect
     ensures { λ r. ⌜ r ≡ spec.estRule a b e ⌝ }
 {
     let packet = bare(a, b, Payload::Req(e));
-    only(Outcome::WroteTwo(
-        Item::Out { node: a, packet },
-        Item::Ewait {
-            node: a,
-            establishment: e,
-        },
-    ))
+    only(Outcome::WroteTwo(Item::Out(a, packet), Item::Ewait(a, e)))
 }
 
 // auth(a, q, e, side), where `enough` tells whether q has all that a needs
@@ -35,12 +29,7 @@ pub fn auth(enough: bool, a: u8, q: u8, e: u8, side: Side) -> Effect
     ensures { λ r. ⌜ r ≡ spec.authRule enough a q e side ⌝ }
 {
     if enough {
-        return writes(Item::Grant {
-            node: a,
-            peer: q,
-            establishment: e,
-            side,
-        });
+        return writes(Item::Grant(a, q, e, side));
     }
     only(Outcome::Denied)
 }
@@ -54,19 +43,12 @@ pub fn grant(s: Session, a: u8, q: u8, e: u8, side: Side) -> Effect
             let older = out_row(a, s.client, s.server, q, e);
             let newer = in_row(a, s.server, s.client, q, e);
             let packet = bare(a, q, Payload::Rep(e));
-            writes_rows(older, newer, Item::Out { node: a, packet })
+            writes_rows(older, newer, Item::Out(a, packet))
         }
         Side::Initiator => {
             let older = out_row(a, s.server, s.client, q, e);
             let newer = in_row(a, s.client, s.server, q, e);
-            writes_rows(
-                older,
-                newer,
-                Item::Ack {
-                    node: a,
-                    establishment: e,
-                },
-            )
+            writes_rows(older, newer, Item::Ack(a, e))
         }
     }
 }
@@ -77,17 +59,10 @@ fn acknowledged(s: Session, a: u8) -> Item
 {
     if a == s.server {
         let done = bare(s.server, s.client, Payload::Done);
-        return Item::Out {
-            node: a,
-            packet: done,
-        };
+        return Item::Out(a, done);
     }
     let disc = bare(s.client, s.server, Payload::Disc(a));
-    Item::Wire {
-        node: a,
-        packet: disc,
-        hops: 32,
-    }
+    Item::Wire(a, disc, 32)
 }
 
 // ack(a, e)

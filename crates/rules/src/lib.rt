@@ -1,9 +1,11 @@
-// The eight rules of a step, each proved equal to the model's.
+// The rule of each item, proved equal to the model's.
 mod effect;
-pub mod enter;
-pub mod establish;
-pub mod out;
-mod packet;
+mod enter;
+mod establish;
+mod header;
+mod out;
+pub mod packet;
 mod row;
-pub mod up;
-pub mod wire;
+pub mod rule;
+mod up;
+mod wire;

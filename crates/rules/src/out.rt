@@ -1,6 +1,6 @@
 // The rule out.
 use crate::effect::writes;
-use crate::packet::under;
+use crate::header::under;
 use crate::row::newest;
 use calculus::effect::Effect;
 use calculus::number::Spi;
@@ -37,9 +37,5 @@ pub fn out(rows: [Row; 32], held: u8, a: u8, p: Packet) -> Effect
     let via = newest(rows, held, true, a, p);
     let header = header_to(a, via);
     let packet = under(p, header);
-    writes(Item::Wire {
-        node: a,
-        packet,
-        hops: 32,
-    })
+    writes(Item::Wire(a, packet, 32))
 }

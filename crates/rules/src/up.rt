@@ -1,7 +1,7 @@
 // The rule up.
 use crate::effect::lost;
 use crate::effect::writes;
-use crate::packet::under;
+use crate::header::under;
 use crate::row::admits;
 use calculus::answer::Loss;
 use calculus::effect::Effect;
@@ -32,11 +32,7 @@ pub fn up(stands: bool, rows: [Row; 32], held: u8, a: u8, p: Packet) -> Effect
 {
     let header = p.header;
     match header {
-        Header::Bare => writes(Item::In {
-            node: a,
-            packet: p,
-            via: Via::Untunnelled,
-        }),
+        Header::Bare => writes(Item::In(a, p, Via::Untunnelled)),
         Header::Tunnel {
             from,
             to: _,
@@ -44,11 +40,7 @@ pub fn up(stands: bool, rows: [Row; 32], held: u8, a: u8, p: Packet) -> Effect
         } => {
             if lets_in(stands, rows, held, a, from) {
                 let packet = under(p, Header::Bare);
-                return writes(Item::In {
-                    node: a,
-                    packet,
-                    via: Via::Peer(from),
-                });
+                return writes(Item::In(a, packet, Via::Peer(from)));
             }
             lost(Loss::NoTunnel)
         }

@@ -1,9 +1,8 @@
 // The rule wire.
 use crate::effect::lost;
 use crate::effect::writes;
-use crate::packet::is_bare;
-use crate::packet::is_data_or_done;
-use crate::packet::target;
+use crate::header::is_bare;
+use crate::header::target;
 use calculus::answer::Loss;
 use calculus::effect::Added;
 use calculus::effect::Begins;
@@ -58,17 +57,22 @@ fn begin(a: u8, p: u8, e: u8) -> Effect
     ensures { λ r. ⌜ r ≡ spec.begin a p e ⌝ }
 {
     Effect {
-        outcome: Outcome::WroteTwo(
-            Item::Dwait { node: a },
-            Item::Est {
-                node: a,
-                peer: p,
-                establishment: e,
-            },
-        ),
+        outcome: Outcome::WroteTwo(Item::Dwait(a), Item::Est(a, p, e)),
         wait: Wait::NoWait,
         added: Added::NoRows,
         begins: Begins::Next(e),
+    }
+}
+
+fn is_data_or_done(y: Payload) -> bool
+    ensures { λ r. ⌜ r ≡ packet.isDataOrDone y ⌝ }
+{
+    match y {
+        Payload::Req(_) => false,
+        Payload::Rep(_) => false,
+        Payload::Disc(_) => false,
+        Payload::Done => true,
+        Payload::Data(_) => true,
     }
 }
 
@@ -98,11 +102,7 @@ fn onward(next: NextHop, p: Packet, hops: u8) -> Effect
         NextHop::Missing => lost(Loss::NoRoute),
         NextHop::Found(node) => {
             let left = before(hops);
-            writes(Item::Wire {
-                node,
-                packet: p,
-                hops: left,
-            })
+            writes(Item::Wire(node, p, left))
         }
     }
 }
@@ -128,7 +128,7 @@ pub fn wire(gateway: bool, next: NextHop, s: Session, a: u8, p: Packet, h: u8) -
         return begin(a, point, s.begun + 1);
     }
     if arrived(a, p) {
-        return writes(Item::Up { node: a, packet: p });
+        return writes(Item::Up(a, p));
     }
     if unprotected(gateway, p) {
         return lost(Loss::Unprotected);

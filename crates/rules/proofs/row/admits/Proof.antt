@@ -5,7 +5,7 @@ use mathlib.Core.Bool.{false}
 use Rattle.calculus.proofs.Tests.{join}
 use Rattle.model.specs.Row.{names, howMany}
 use Rattle.model.specs.Row as row
-use Rattle.rules.proofs.Walks.{Unmet, unmet-none, unmet-more, unmet-here, unmet-past, unmet-end}
+use Rattle.rules.proofs.Searches.{Unmet, unmet-none, unmet-more, unmet-here, unmet-past, unmet-end}
 use Rattle.rules.proofs.row.admits.Statement.{statement}
 use Rattle.rules.proofs.row.admits.Tie as tie
 

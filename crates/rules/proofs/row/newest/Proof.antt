@@ -3,7 +3,7 @@ use borrow.Author.Needs.{needs}
 use Prim.Native.Nat.{_-_}
 use Rattle.model.specs.Row.{newer}
 use Rattle.calculus.specs.declared.packet.Via.the-variants.{Untunnelled}
-use Rattle.rules.proofs.Walks.{Walked, walked-none, walked-more, walked-past, walked-end}
+use Rattle.lookups.proofs.Walks.{Walked, walked-none, walked-more, walked-past, walked-end}
 use Rattle.rules.proofs.row.newest.Statement.{statement}
 use Rattle.rules.proofs.row.newest.Tie as tie
 

@@ -1,6 +1,7 @@
 -- `wire::wire` meets its contract. Assumes nothing.
 use borrow.Author.Tests.{eq-eqb, ne-eqb, le-leb, lt-leb}
 use borrow.Author.Needs.{needs}
+use native.Mathlib.Omega.{arith}
 use Rattle.calculus.proofs.Tests.{join}
 use Rattle.model.specs.Rules.{wireRule}
 use Rattle.rules.proofs.wire.wire.Statement.{statement}
@@ -11,7 +12,7 @@ unfolding wireRule
 returns c =
     simp (
       c .lost .ensures,
-      le-leb _ _ (c .before .if2 .taken),
+      le-leb 8 (c .before .before .before .before .before .args .s .begun) (omega (arith, c .before .if2 .taken)),
       join (c .before .before .before .before .discovers .ensures) (c .before .before .before .if1 .taken),
     )
 

@@ -1,0 +1,5 @@
+-- Laws that belong to no one function.
+pub mod Covers
+pub mod Nodes
+pub mod Walks
+pub mod Within

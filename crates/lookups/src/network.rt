@@ -1,0 +1,117 @@
+// What is looked up in the network.
+use calculus::network::Kind;
+use calculus::network::Network;
+use calculus::network::NextHop;
+use calculus::network::Node;
+use calculus::number::is_node;
+ghost use mathlib.Core.Path.{_≡_};
+ghost use mathlib.Core.Bool.{not, _||_};
+ghost use Rattle.model.specs.Network as spec;
+
+// What stands where no node is given.
+pub fn no_node() -> Node
+    ensures { λ r. ⌜ r ≡ spec.noNode ⌝ }
+{
+    Node {
+        given: false,
+        kind: Kind::Host,
+        has: [false; 64],
+        needs: [false; 64],
+    }
+}
+
+fn node_at(n: Network, a: u8) -> Node
+    ensures { λ r. ⌜ r ≡ spec.nodeAt n a ⌝ }
+{
+    if is_node(a as u64) {
+        let at = a as usize - 1;
+        return n.nodes[at];
+    }
+    no_node()
+}
+
+// Whether node `a` was given.
+pub fn given(n: Network, a: u8) -> bool
+    ensures { λ r. ⌜ r ≡ spec.given n a ⌝ }
+{
+    let found = node_at(n, a);
+    found.given
+}
+
+fn is_gate(k: Kind) -> bool
+    ensures { λ r. ⌜ r ≡ spec.isGate k ⌝ }
+{
+    match k {
+        Kind::Host => false,
+        Kind::Gateway => true,
+    }
+}
+
+// Whether `a` was given as a gateway.
+pub fn is_gateway(n: Network, a: u8) -> bool
+    ensures { λ r. ⌜ r ≡ spec.isGateway n a ⌝ }
+{
+    let node = node_at(n, a);
+    let kind = node.kind;
+    is_gate(kind)
+}
+
+// A stored next node: 0 where there is no route.
+fn hop(next: u8) -> NextHop
+    ensures { λ r. ⌜ r ≡ spec.hop next ⌝ }
+{
+    if next == 0 {
+        return NextHop::Missing;
+    }
+    NextHop::Found(next)
+}
+
+// The next hop from `a` for `b`; none where `a` or `b` is no node.
+pub fn next_hop(n: Network, a: u8, b: u8) -> NextHop
+    ensures { λ r. ⌜ r ≡ spec.nextHop n a b ⌝ }
+{
+    if is_node(a as u64) {
+        if is_node(b as u64) {
+            let at = 32 * (a as usize - 1) + (b as usize - 1);
+            let next = n.routes[at];
+            return hop(next);
+        }
+    }
+    NextHop::Missing
+}
+
+// Whether a credential is had, or not needed.
+fn is_met(has: bool, needs: bool) -> bool
+    ensures { λ r. ⌜ r ≡ (has || not needs) ⌝ }
+{
+    if has {
+        return true;
+    }
+    !needs
+}
+
+// Whether every credential of `needs` is in `has`.
+fn covers(has: [bool; 64], needs: [bool; 64]) -> bool
+    ensures { λ r. ⌜ r ≡ spec.covers has needs ⌝ }
+{
+    let mut i: usize = 0;
+    while i < 64 {
+        if is_met(has[i], needs[i]) {
+            i += 1;
+        } else {
+            return false;
+        }
+    }
+    true
+}
+
+// Whether `q` has all that `a` needs.
+pub fn has_all_needed(n: Network, a: u8, q: u8) -> bool
+    ensures { λ r. ⌜ r ≡ spec.hasAllNeeded n a q ⌝ }
+{
+    let peer = node_at(n, q);
+    let node = node_at(n, a);
+    let has = peer.has;
+    let needs = node.needs;
+    covers(has, needs)
+}

@@ -1,0 +1,89 @@
+// The rule of an item, with what it looks up.
+use crate::effect::lost;
+use crate::enter::enter;
+use crate::establish::ack;
+use crate::establish::auth;
+use crate::establish::est;
+use crate::establish::grant;
+use crate::header::target;
+use crate::out::out;
+use crate::up::up;
+use crate::wire::wire;
+use calculus::answer::Loss;
+use calculus::effect::Effect;
+use calculus::network::Network;
+use calculus::packet::Header;
+use calculus::packet::Item;
+use calculus::packet::Packet;
+use calculus::session::Session;
+use calculus::state::Part;
+use lookups::network::has_all_needed;
+use lookups::network::is_gateway;
+use lookups::network::next_hop;
+use lookups::users::stands;
+ghost use mathlib.Core.Path.{_≡_};
+ghost use mathlib.Core.Bool.{false};
+ghost use Rattle.model.specs.Network.{isGateway, nextHop};
+ghost use Rattle.model.specs.Packet as packet;
+ghost use Rattle.model.specs.Row as row;
+ghost use Rattle.model.specs.Rules as spec;
+
+// Wire, with the route from `a` for the packet's target.
+fn wire_at(n: Network, s: Session, a: u8, p: Packet, h: u8) -> Effect
+    ensures { λ r. ⌜ r ≡ spec.wireRule (isGateway n a) (nextHop n a (packet.target p)) s a p h ⌝ }
+{
+    let gateway = is_gateway(n, a);
+    let to = target(p);
+    let next = next_hop(n, a, to);
+    wire(gateway, next, s, a, p, h)
+}
+
+// Whether the header is from some q, and In(a, q) stands.
+fn header_stands(users: [u16; 2048], a: u8, h: Header) -> bool
+    ensures { λ r. ⌜ r ≡ spec.headerStands (row.stands users false) a h ⌝ }
+{
+    match h {
+        Header::Bare => false,
+        Header::Tunnel {
+            from,
+            to: _,
+            spi: _,
+        } => stands(users, false, a, from),
+    }
+}
+
+// A free place and a wait have no rule: a step of one is refused before.
+fn never_met() -> Effect
+    ensures { λ r. ⌜ r ≡ spec.neverMet ⌝ }
+{
+    lost(Loss::WrongTunnel)
+}
+
+// What the item's rule does, for the session whose part is `t`.
+pub fn rule(n: Network, users: [u16; 2048], t: Part, i: Item) -> Effect
+    ensures { λ r. ⌜ r ≡ spec.rule n (row.stands users false) t i ⌝ }
+{
+    let s = t.session;
+    let rows = t.rows;
+    let held = s.rows;
+    match i {
+        Item::Free => never_met(),
+        Item::Wire(a, p, h) => wire_at(n, s, a, p, h),
+        Item::Out(a, p) => out(rows, held, a, p),
+        Item::Up(a, p) => {
+            let header = p.header;
+            let standing = header_stands(users, a, header);
+            up(standing, rows, held, a, p)
+        }
+        Item::In(a, p, via) => enter(rows, held, a, p, via),
+        Item::Est(a, b, e) => est(a, b, e),
+        Item::Auth(a, q, e, side) => {
+            let enough = has_all_needed(n, a, q);
+            auth(enough, a, q, e, side)
+        }
+        Item::Grant(a, q, e, side) => grant(s, a, q, e, side),
+        Item::Ack(a, _) => ack(s, a),
+        Item::Dwait(_) => never_met(),
+        Item::Ewait(_, _) => never_met(),
+    }
+}
