@@ -1,0 +1,13 @@
+-- `requests::stepped` meets its contract. Assumes nothing.
+use borrow.Author.Needs.{needs}
+use Rattle.model.specs.Requests.{stepped}
+use Rattle.sessions.proofs.requests.stepped.Statement.{statement}
+use Rattle.sessions.proofs.requests.stepped.Tie as tie
+
+returns : tie.Need-returns
+unfolding stepped
+returns c = simp (c .users-after .ensures, c .before .applied .ensures, c .before .before .answer-of .ensures)
+
+pub stepped-spec : {M : Type 1} → statement M
+stepped-spec =
+    tie.close (tie.spec (λ c κs. search needs) (λ c κs. search needs) (λ c κs. search needs) returns)

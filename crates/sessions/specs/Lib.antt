@@ -1,0 +1,2 @@
+-- What the contracts of `sessions` cite.
+pub mod Moved
