@@ -1,0 +1,39 @@
+-- What a line asks has its numbers in range. Assumes nothing.
+use mathlib.Core.Path.{_≡_}
+use mathlib.Core.Bool.{Bool, true, _&&_}
+use mathlib.Core.Option.{Option, none, some}
+use Prim.Native.Nat.{ℕ, _≤_}
+use Rattle.calculus.specs.Number.{within, isNode}
+use Rattle.calculus.proofs.Tests.{both, within-bounds}
+use Rattle.forms.specs.declared.read.Parsed.{Parsed}
+use Rattle.forms.specs.declared.read.Parsed.the-variants.{Asks, Refused}
+use Rattle.forms.specs.declared.read.Reading.{Reading}
+use Rattle.forms.specs.Text.{Form, node, route, «open», step, send, close, show}
+use Rattle.forms.specs.Request.{isSession, isItem, isTag, rising, reading, asked}
+use Rattle.model.proofs.Checks.{either}
+use Rattle.simulator.specs.Range.{InRange}
+
+-- what is asked, if anything, is in range
+abbrev pub Ranged : Parsed → Type 0
+Ranged (Asks q) = InRange q
+Ranged (Refused r) = Unit
+
+first-bounds : (low high n : ℕ) (b : Bool) → (within low high n && b) ≡ true → (low ≤ n) × (n ≤ high)
+first-bounds low high n b e = within-bounds low high n (both (within low high n) b e .0)
+
+form-ranged : (f : Form) → Ranged (reading f .parsed)
+form-ranged (node a k has needs) =
+    either (λ (r : Reading). Ranged (r .parsed)) (isNode a && (rising 0 has && rising 0 needs)) (λ e. first-bounds 1 32 a _ e) (λ e. tt)
+form-ranged (route a b n) =
+    either Ranged (isNode a && (isNode b && isNode n))
+    (λ e. (first-bounds 1 32 a _ e, first-bounds 1 32 b _ (both (isNode a) (isNode b && isNode n) e .1)))
+    (λ e. tt)
+form-ranged («open» u c d) = either Ranged (isSession u && (isNode c && isNode d)) (λ e. first-bounds 1 8 u _ e) (λ e. tt)
+form-ranged (step u k) = either Ranged (isSession u && isItem k) (λ e. first-bounds 1 8 u _ e) (λ e. tt)
+form-ranged (send u w t) = either Ranged (isSession u && (within 0 1 w && isTag t)) (λ e. first-bounds 1 8 u _ e) (λ e. tt)
+form-ranged (close u) = either Ranged (isSession u) (within-bounds 1 8 u) (λ e. tt)
+form-ranged show = tt
+
+pub asked-ranged : (o : Option Form) → Ranged (asked o .parsed)
+asked-ranged none = tt
+asked-ranged (some f) = form-ranged f

@@ -1,0 +1,10 @@
+-- `call::fresh` meets its contract. Assumes nothing.
+use borrow.Author.Needs.{needs}
+use Rattle.simulator.proofs.call.fresh.Statement.{statement}
+use Rattle.simulator.proofs.call.fresh.Tie as tie
+
+returns : tie.Need-returns
+returns c = simp (c .blank-row .ensures, c .before .blank-slot .ensures, c .before .before .no-node .ensures)
+
+pub fresh-spec : {M : Type 1} → statement M
+fresh-spec = tie.close (tie.spec (λ c κs. search needs) (λ c κs. search needs) (λ c κs. search needs) returns)

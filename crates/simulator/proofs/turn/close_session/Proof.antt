@@ -1,0 +1,11 @@
+-- `turn::close_session` meets its contract. Assumes nothing.
+use borrow.Author.Needs.{needs}
+use Rattle.simulator.proofs.Turns.{turn-of}
+use Rattle.simulator.proofs.turn.close_session.Statement.{statement}
+use Rattle.simulator.proofs.turn.close_session.Tie as tie
+
+returns : tie.Need-returns
+returns c = simp (c .performed .ensures, c .before .close .ensures, c .before .before .load .ensures, turn-of)
+
+pub close-session-spec : {M : Type 1} → statement M
+close-session-spec = tie.close (tie.spec (λ c κs. search needs) (λ c κs. search needs) (λ c κs. search needs) returns)
