@@ -1,0 +1,2 @@
+-- What the contracts of `simulate` cite.
+pub mod Keep
