@@ -1,0 +1,285 @@
+//! Packets, items, rows and the rule of each kind of item.
+
+use crate::network::Network;
+use std::collections::BTreeMap;
+
+const HOPS: u64 = 32;
+const MOST_ESTABLISHMENTS: u64 = 8;
+const FIRST_SPI: u64 = 256;
+const SPI_STRIDE: u64 = 32;
+
+#[derive(Clone, Copy, Debug, PartialEq)]
+pub enum Payload {
+    Req(u64),
+    Rep(u64),
+    /// of the last tunnel point
+    Disc(u64),
+    Done,
+    Data(u64),
+}
+
+#[derive(Clone, Copy, Debug, PartialEq)]
+pub struct Header {
+    pub from: u64,
+    pub to: u64,
+    pub spi: u64,
+}
+
+#[derive(Clone, Copy, Debug, PartialEq)]
+pub struct Packet {
+    pub source: u64,
+    pub destination: u64,
+    pub payload: Payload,
+    pub header: Option<Header>,
+}
+
+impl Packet {
+    pub fn bare(source: u64, destination: u64, payload: Payload) -> Self {
+        Packet { source, destination, payload, header: None }
+    }
+}
+
+#[derive(Clone, Copy, Debug, PartialEq)]
+pub enum Side {
+    Initiator,
+    Responder,
+}
+
+#[derive(Clone, Copy, Debug, PartialEq)]
+pub enum Item {
+    Wire { at: u64, packet: Packet, hops: u64 },
+    Out { at: u64, packet: Packet },
+    Up { at: u64, packet: Packet },
+    In { at: u64, packet: Packet, via: Option<u64> },
+    Est { at: u64, peer: u64, establishment: u64 },
+    Auth { at: u64, peer: u64, establishment: u64, side: Side },
+    Grant { at: u64, peer: u64, establishment: u64, side: Side },
+    Ack { at: u64, establishment: u64 },
+    Dwait { at: u64 },
+    Ewait { at: u64, establishment: u64 },
+}
+
+impl Item {
+    pub fn waits(&self) -> bool {
+        matches!(self, Item::Dwait { .. } | Item::Ewait { .. })
+    }
+
+    pub fn holds_data(&self) -> bool {
+        match self {
+            Item::Wire { packet, .. }
+            | Item::Out { packet, .. }
+            | Item::Up { packet, .. }
+            | Item::In { packet, .. } => {
+                matches!(packet.payload, Payload::Data(_))
+            }
+            _ => false,
+        }
+    }
+}
+
+#[derive(Clone, Copy, Debug, PartialEq, Eq, PartialOrd, Ord)]
+pub enum Direction {
+    In,
+    Out,
+}
+
+/// In(node, peer) or Out(node, peer).
+#[derive(Clone, Copy, Debug, PartialEq, Eq, PartialOrd, Ord)]
+pub struct Association {
+    pub node: u64,
+    pub direction: Direction,
+    pub peer: u64,
+}
+
+impl Association {
+    /// The SPI of what the receiver of the two gets from the other.
+    pub fn spi(&self) -> u64 {
+        let (receiver, sender) = match self.direction {
+            Direction::In => (self.node, self.peer),
+            Direction::Out => (self.peer, self.node),
+        };
+        FIRST_SPI + SPI_STRIDE * (receiver - 1) + (sender - 1)
+    }
+}
+
+pub struct Row {
+    pub association: Association,
+    /// source and destination
+    pub filter: (u64, u64),
+    pub establishment: u64,
+}
+
+/// What a step leads to.
+pub enum Outcome {
+    Made(Vec<Item>),
+    Lost(u64),
+    Denied,
+    Opened,
+    Delivered(u64),
+}
+
+/// A session in use. Its stage is read by no rule and no request, so it is not kept.
+pub struct Session {
+    pub client: u64,
+    pub server: u64,
+    /// pending, by number
+    pub items: BTreeMap<u64, Item>,
+    /// oldest first
+    pub rows: Vec<Row>,
+    pub begun: u64,
+}
+
+impl Session {
+    pub fn new(client: u64, server: u64) -> Self {
+        Session { client, server, items: BTreeMap::new(), rows: Vec::new(), begun: 0 }
+    }
+
+    /// What an open writes.
+    pub fn discovery(&self, at: u64) -> Item {
+        Item::Wire { at, packet: Packet::bare(self.client, self.server, Payload::Disc(at)), hops: HOPS }
+    }
+
+    /// What a send writes: side 0 is the client's.
+    pub fn data(&self, side: u64, tag: u64) -> Item {
+        let (at, to) = if side == 0 { (self.client, self.server) } else { (self.server, self.client) };
+        Item::Out { at, packet: Packet::bare(at, to, Payload::Data(tag)) }
+    }
+
+    /// Applies the item's rule; the item itself is already taken off.
+    pub fn apply(&mut self, item: Item, network: &Network) -> Outcome {
+        match item {
+            Item::Wire { at, packet, hops } => self.wire(at, packet, hops, network),
+            Item::Out { at, packet } => self.out(at, packet),
+            Item::Up { at, packet } => self.up(at, packet),
+            Item::In { at, packet, via } => self.receive(at, packet, via),
+            Item::Est { at, peer, establishment } => Outcome::Made(vec![
+                Item::Out { at, packet: Packet::bare(at, peer, Payload::Req(establishment)) },
+                Item::Ewait { at, establishment },
+            ]),
+            Item::Auth { at, peer, establishment, side } if network.accepts(at, peer) => {
+                made(Item::Grant { at, peer, establishment, side })
+            }
+            Item::Auth { .. } => Outcome::Denied,
+            Item::Grant { at, peer, establishment, side } => self.grant(at, peer, establishment, side),
+            Item::Ack { at, .. } => self.acknowledge(at),
+            Item::Dwait { .. } | Item::Ewait { .. } => unreachable!("a wait is refused before"),
+        }
+    }
+
+    fn wire(&mut self, at: u64, packet: Packet, hops: u64, network: &Network) -> Outcome {
+        let to = packet.header.map_or(packet.destination, |header| header.to);
+        let gateway = network.is_gateway(at);
+        if let Payload::Disc(point) = packet.payload {
+            if at != point && (gateway || at == self.server) {
+                return self.begin(at, point);
+            }
+        }
+        if at == to {
+            return made(Item::Up { at, packet });
+        }
+        if gateway && packet.header.is_none() && matches!(packet.payload, Payload::Data(_) | Payload::Done) {
+            return Outcome::Lost(1);
+        }
+        if hops == 0 {
+            return Outcome::Lost(2);
+        }
+        match network.routes.get(&(at, to)) {
+            Some(&next) => made(Item::Wire { at: next, packet, hops: hops - 1 }),
+            None => Outcome::Lost(3),
+        }
+    }
+
+    fn begin(&mut self, at: u64, peer: u64) -> Outcome {
+        if self.begun == MOST_ESTABLISHMENTS {
+            return Outcome::Lost(6);
+        }
+        self.begun += 1;
+        Outcome::Made(vec![Item::Dwait { at }, Item::Est { at, peer, establishment: self.begun }])
+    }
+
+    fn out(&self, at: u64, packet: Packet) -> Outcome {
+        let header = self.newest_match(at, Direction::Out, &packet).map(|row| Header {
+            from: at,
+            to: row.association.peer,
+            spi: row.association.spi(),
+        });
+        made(Item::Wire { at, packet: Packet { header, ..packet }, hops: HOPS })
+    }
+
+    /// A row of this session is itself a user of its association, so the association of such a row stands.
+    fn up(&self, at: u64, packet: Packet) -> Outcome {
+        let Some(header) = packet.header else {
+            return made(Item::In { at, packet, via: None });
+        };
+        let association = Association { node: at, direction: Direction::In, peer: header.from };
+        if self.rows.iter().any(|row| row.association == association) {
+            made(Item::In { at, packet: Packet { header: None, ..packet }, via: Some(header.from) })
+        } else {
+            Outcome::Lost(4)
+        }
+    }
+
+    fn receive(&mut self, at: u64, packet: Packet, via: Option<u64>) -> Outcome {
+        if self.newest_match(at, Direction::In, &packet).map(|row| row.association.peer) != via {
+            return Outcome::Lost(5);
+        }
+        if packet.destination != at {
+            return made(Item::Out { at, packet });
+        }
+        let peer = packet.source;
+        match packet.payload {
+            Payload::Req(establishment) => made(Item::Auth { at, peer, establishment, side: Side::Responder }),
+            Payload::Rep(establishment) => {
+                self.use_up(Item::Ewait { at, establishment });
+                made(Item::Auth { at, peer, establishment, side: Side::Initiator })
+            }
+            Payload::Done => Outcome::Opened,
+            Payload::Data(tag) => Outcome::Delivered(tag),
+            Payload::Disc(_) => unreachable!("no Disc reaches up"),
+        }
+    }
+
+    fn grant(&mut self, at: u64, peer: u64, establishment: u64, side: Side) -> Outcome {
+        let forward = (self.client, self.server);
+        let backward = (self.server, self.client);
+        let (out, inward) = match side {
+            Side::Responder => (forward, backward),
+            Side::Initiator => (backward, forward),
+        };
+        for (direction, filter) in [(Direction::Out, out), (Direction::In, inward)] {
+            self.rows.push(Row { association: Association { node: at, direction, peer }, filter, establishment });
+        }
+        made(match side {
+            Side::Responder => Item::Out { at, packet: Packet::bare(at, peer, Payload::Rep(establishment)) },
+            Side::Initiator => Item::Ack { at, establishment },
+        })
+    }
+
+    fn acknowledge(&mut self, at: u64) -> Outcome {
+        self.use_up(Item::Dwait { at });
+        made(if at == self.server {
+            Item::Out { at, packet: Packet::bare(at, self.client, Payload::Done) }
+        } else {
+            self.discovery(at)
+        })
+    }
+
+    fn newest_match(&self, at: u64, direction: Direction, packet: &Packet) -> Option<&Row> {
+        self.rows.iter().rev().find(|row| {
+            let own = matches!(packet.payload, Payload::Req(e) | Payload::Rep(e) if e == row.establishment);
+            (row.association.node, row.association.direction) == (at, direction)
+                && row.filter == (packet.source, packet.destination)
+                && !own
+        })
+    }
+
+    /// Document 01 claims that the wait is always pending, so its absence is an error.
+    fn use_up(&mut self, wait: Item) {
+        let number = *self.items.iter().find(|(_, item)| **item == wait).expect("the wait is pending").0;
+        self.items.remove(&number);
+    }
+}
+
+fn made(item: Item) -> Outcome {
+    Outcome::Made(vec![item])
+}

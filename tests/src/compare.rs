@@ -1,0 +1,55 @@
+//! Compares outputs, byte for byte but for the order of show, which document 01 leaves open.
+
+use crate::lists::{input, List};
+use crate::{lines, program};
+
+/// The output's lines, each with its newline; the associations of a show are sorted.
+fn normal(output: &[u8]) -> Vec<&[u8]> {
+    let mut lines: Vec<&[u8]> = output.split_inclusive(|&byte| byte == b'\n').collect();
+    // `(end)` stands between the associations of two shows
+    for show in lines.chunk_by_mut(|one, next| is_association(one) && is_association(next)) {
+        show.sort();
+    }
+    lines
+}
+
+fn is_association(line: &[u8]) -> bool {
+    line.starts_with(b"(assoc ")
+}
+
+/// The first line that differs: its index and what was expected and written there.
+pub fn difference(expected: &[u8], output: &[u8]) -> Option<(usize, String)> {
+    let (expected, output) = (normal(expected), normal(output));
+    let line = (0..expected.len().max(output.len())).find(|&line| expected.get(line) != output.get(line))?;
+    let text = |lines: &[&[u8]]| lines.get(line).map(|line| String::from_utf8_lossy(line).into_owned());
+    Some((line, format!("expected {:?}, written {:?}", text(&expected), text(&output))))
+}
+
+/// The first difference between the list's answers and the output, with its call.
+pub fn difference_from_list(list: &List, output: &[u8]) -> Option<String> {
+    let (line, text) = difference(&input(&list.answers.concat()), output)?;
+    let mut lines_so_far = 0;
+    let call = list.answers.iter().position(|answer| {
+        lines_so_far += answer.len();
+        lines_so_far > line
+    });
+    let call = call.map(|call| String::from_utf8_lossy(&list.calls[call]));
+    Some(format!("line {} of the output, call {call:?}: {text}", line + 1))
+}
+
+/// Asserts that both implementations give this output for this input.
+pub fn check_output(input: &[u8], expected: &[u8]) {
+    assert_eq!(difference(expected, &lines::run(input)), None, "second implementation");
+    assert_eq!(difference(expected, &program::run(input)), None, "program");
+}
+
+/// Asserts that both implementations answer each call as written beside it, the lines of a show with newlines between.
+pub fn check<Call: AsRef<[u8]>, Answer: AsRef<str>>(script: &[(Call, Answer)]) {
+    let list = List {
+        calls: script.iter().map(|(call, _)| call.as_ref().to_vec()).collect(),
+        answers: script.iter().map(|(_, answer)| answer.as_ref().split('\n').map(String::from).collect()).collect(),
+        network: 0,
+    };
+    assert_eq!(difference_from_list(&list, &lines::run(&list.input())), None, "second implementation");
+    assert_eq!(difference_from_list(&list, &program::run(&list.input())), None, "program");
+}

@@ -1,0 +1,137 @@
+//! Random networks, as the node and route calls that give them.
+
+use crate::random::Random;
+use std::collections::BTreeSet;
+
+pub struct Topology {
+    pub nodes: Vec<u64>,
+    pub hosts: Vec<u64>,
+    /// two hosts that lie far apart
+    pub ends: (u64, u64),
+    pub calls: Vec<String>,
+}
+
+#[derive(Clone, Copy, PartialEq)]
+enum Shape {
+    /// gateways between two hosts
+    Chain,
+    /// more gateways than a session may begin establishments, for loss 6
+    LongChain,
+    /// hosts and gateways between two hosts
+    MixedChain,
+    Tree,
+    /// every route at random, so that some loop
+    Wild,
+}
+
+const SHAPES: [Shape; 12] = [
+    Shape::Chain,
+    Shape::Chain,
+    Shape::Chain,
+    Shape::Chain,
+    Shape::Chain,
+    Shape::LongChain,
+    Shape::LongChain,
+    Shape::MixedChain,
+    Shape::MixedChain,
+    Shape::Tree,
+    Shape::Tree,
+    Shape::Wild,
+];
+
+impl Topology {
+    pub fn new(random: &mut Random) -> Self {
+        let shape = random.pick(&SHAPES);
+        let size = match shape {
+            Shape::Chain => 2 + random.index(5),
+            Shape::LongChain => 11 + random.index(3),
+            Shape::MixedChain | Shape::Tree => 3 + random.index(6),
+            Shape::Wild => 2 + random.index(5),
+        };
+        let mut nodes: Vec<u64> = (1..=32).collect();
+        random.shuffle(&mut nodes);
+        nodes.truncate(size);
+        let gateways = gateways(random, shape, size);
+        let mut calls = node_calls(random, &nodes, &gateways);
+        calls.extend(route_calls(random, shape, &nodes));
+        if random.one_in(10) {
+            // some routes come before their nodes and are refused
+            random.shuffle(&mut calls);
+        }
+        let hosts = (0..size).filter(|&place| !gateways[place]).map(|place| nodes[place]).collect();
+        Topology { ends: (nodes[0], nodes[size - 1]), nodes, hosts, calls }
+    }
+}
+
+/// Whether each place is a gateway; the first and the last are hosts.
+fn gateways(random: &mut Random, shape: Shape, size: usize) -> Vec<bool> {
+    let inner = |random: &mut Random| match shape {
+        Shape::Chain | Shape::LongChain => true,
+        Shape::MixedChain => !random.one_in(3),
+        Shape::Tree | Shape::Wild => random.one_in(2),
+    };
+    (0..size).map(|place| place != 0 && place != size - 1 && inner(random)).collect()
+}
+
+fn node_calls(random: &mut Random, nodes: &[u64], gateways: &[bool]) -> Vec<String> {
+    let pool: Vec<u64> = (0..4).map(|_| random.below(64)).collect();
+    let policy = random.below(4);
+    let mut subset = |one_in: u64| pool.iter().copied().filter(|_| random.one_in(one_in)).collect::<BTreeSet<_>>();
+    let call = |(&node, &gateway)| {
+        let (has, needs) = match policy {
+            0 => (subset(2), subset(6)),
+            1 => (subset(1), subset(2)),
+            _ => Default::default(),
+        };
+        node_call(node, gateway, &has, &needs)
+    };
+    nodes.iter().zip(gateways).map(call).collect()
+}
+
+pub fn node_call(node: u64, gateway: bool, has: &BTreeSet<u64>, needs: &BTreeSet<u64>) -> String {
+    let list = |set: &BTreeSet<u64>| set.iter().map(|credential| format!(" {credential}")).collect::<String>();
+    let kind = if gateway { "gate" } else { "host" };
+    format!("(node {node} {kind} (has{}) (needs{}))", list(has), list(needs))
+}
+
+fn route_calls(random: &mut Random, shape: Shape, nodes: &[u64]) -> Vec<String> {
+    let parents = parents(random, shape, nodes.len());
+    // one route in so many is missing or leads anywhere
+    let fault = random.pick(&[1_000_000, 1_000_000, 50, 10]);
+    let mut calls = Vec::new();
+    for at in 0..nodes.len() {
+        for destination in (0..nodes.len()).filter(|&destination| destination != at) {
+            let mut next = next_in_tree(&parents, at, destination);
+            let astray = shape == Shape::Wild || random.one_in(fault);
+            if astray && random.one_in(4) {
+                continue;
+            }
+            if astray {
+                next = random.index(nodes.len());
+            }
+            calls.push(format!("(route {} {} {})", nodes[at], nodes[destination], nodes[next]));
+        }
+    }
+    calls
+}
+
+/// The place above each place but the first, in a tree.
+fn parents(random: &mut Random, shape: Shape, size: usize) -> Vec<usize> {
+    let parent = |place: usize| match shape {
+        _ if place == 0 => 0,
+        Shape::Tree => random.index(place),
+        _ => place - 1,
+    };
+    (0..size).map(parent).collect()
+}
+
+fn next_in_tree(parents: &[usize], at: usize, destination: usize) -> usize {
+    let mut place = destination;
+    while place != 0 {
+        if parents[place] == at {
+            return place;
+        }
+        place = parents[place];
+    }
+    parents[at]
+}

@@ -1,0 +1,67 @@
+//! Demand 3 on the program: what a session is answered in a mix of sessions is what it is answered alone, and its
+//! numbers are 1, 2, 3 and so on. SEED and COUNT in the environment choose other lists.
+
+use simulator_tests::form::Form;
+use simulator_tests::lists::{input, list, LateNetwork, List};
+use simulator_tests::program;
+use simulator_tests::random::{for_each_index, setting};
+
+const CALLS: usize = 500;
+
+#[test]
+fn a_session_is_answered_as_if_alone() {
+    let (seed, count) = (setting("SEED", 3), setting("COUNT", 300));
+    let compared: usize = for_each_index(count, |index| compare(seed, index)).iter().sum();
+    // of a few lists, all may have one session
+    assert!(count < 100 || compared as u64 > 50 * count, "few calls of sessions that share a list: {compared}");
+}
+
+/// Compares each session of one list; gives how many calls were of sessions that shared it with others.
+fn compare(seed: u64, index: u64) -> usize {
+    let list = list(seed, index, CALLS, LateNetwork::No);
+    let mixed = answers(&list.calls, &program::run(&list.input()));
+    let sessions: Vec<Vec<usize>> = (1..=8).map(|session| own(&list, session)).filter(|own| !own.is_empty()).collect();
+    for own in &sessions {
+        let mut calls = list.calls[..list.network].to_vec();
+        calls.extend(own.iter().map(|&call| list.calls[call].clone()));
+        let alone = answers(&calls, &program::run(&input(&calls)));
+        for (&call, answer) in own.iter().zip(&alone[list.network..]) {
+            let text = String::from_utf8_lossy(&list.calls[call]);
+            assert_eq!(&mixed[call], answer, "seed {seed}, list {index}, call {call}: {text}");
+        }
+        assert_numbers_in_order(own.iter().map(|&call| &mixed[call]), &format!("seed {seed}, list {index}"));
+    }
+    if sessions.len() > 1 {
+        sessions.concat().len()
+    } else {
+        0
+    }
+}
+
+/// The indexes of the session's own calls: the forms that name it, whatever their other numbers.
+fn own(list: &List, session: u64) -> Vec<usize> {
+    let names = |call: &usize| Form::read(&list.calls[*call]).and_then(|form| form.session()) == Some(session);
+    (list.network..list.calls.len()).filter(names).collect()
+}
+
+/// The answer to each call. Only show has several lines, and `(end)` is its last.
+fn answers(calls: &[Vec<u8>], output: &[u8]) -> Vec<String> {
+    let output = String::from_utf8(output.to_vec()).expect("the output is text");
+    let mut answers = vec![String::new()];
+    for line in output.lines() {
+        let answer = answers.last_mut().expect("there is one");
+        *answer += line;
+        if !line.starts_with("(assoc ") {
+            answers.push(String::new());
+        }
+    }
+    assert_eq!(answers.pop().as_deref(), Some(""), "the output ends within a show");
+    assert_eq!(answers.len(), calls.len(), "one answer a call");
+    answers
+}
+
+fn assert_numbers_in_order<'a>(answers: impl Iterator<Item = &'a String>, place: &str) {
+    let made = answers.filter_map(|answer| answer.strip_prefix("(made ")?.strip_suffix(')'));
+    let numbers: Vec<u64> = made.flat_map(|numbers| numbers.split(' ')).map(|number| number.parse().unwrap()).collect();
+    assert!(numbers.iter().copied().eq(1..=numbers.len() as u64), "{place}: {numbers:?}");
+}
