@@ -4,8 +4,6 @@ use crate::effect::writes;
 use crate::effect::writes_for;
 use crate::effect::writes_rows;
 use crate::packet::bare;
-use crate::row::in_row;
-use crate::row::out_row;
 use calculus::effect::Effect;
 use calculus::effect::Outcome;
 use calculus::effect::Wait;
@@ -13,6 +11,8 @@ use calculus::packet::Item;
 use calculus::packet::Payload;
 use calculus::packet::Side;
 use calculus::session::Session;
+use rows::row::in_row;
+use rows::row::out_row;
 ghost use mathlib.Core.Path.{_≡_};
 ghost use Rattle.model.specs.Rules as spec;
 

@@ -5,7 +5,6 @@ mod establish;
 mod header;
 mod out;
 pub mod packet;
-mod row;
 pub mod rule;
 mod up;
 mod wire;

@@ -1,7 +1,6 @@
 // The rule out.
 use crate::effect::writes;
 use crate::header::under;
-use crate::row::newest;
 use calculus::effect::Effect;
 use calculus::number::Spi;
 use calculus::packet::Header;
@@ -9,6 +8,7 @@ use calculus::packet::Item;
 use calculus::packet::Packet;
 use calculus::packet::Via;
 use calculus::session::Row;
+use rows::row::newest;
 ghost use mathlib.Core.Path.{_≡_};
 ghost use lib.ListN.{take};
 ghost use Rattle.model.specs.Rules as spec;

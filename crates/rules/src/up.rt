@@ -2,7 +2,6 @@
 use crate::effect::lost;
 use crate::effect::writes;
 use crate::header::under;
-use crate::row::admits;
 use calculus::answer::Loss;
 use calculus::effect::Effect;
 use calculus::packet::Header;
@@ -10,6 +9,7 @@ use calculus::packet::Item;
 use calculus::packet::Packet;
 use calculus::packet::Via;
 use calculus::session::Row;
+use rows::row::admits;
 ghost use mathlib.Core.Path.{_≡_};
 ghost use mathlib.Core.Bool.{_&&_};
 ghost use lib.ListN.{take};

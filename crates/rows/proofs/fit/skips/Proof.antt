@@ -1,7 +1,7 @@
--- `row::skips` meets its contract. Assumes nothing.
+-- `fit::skips` meets its contract. Assumes nothing.
 use borrow.Author.Needs.{needs}
-use Rattle.rules.proofs.row.skips.Statement.{statement}
-use Rattle.rules.proofs.row.skips.Tie as tie
+use Rattle.rows.proofs.fit.skips.Statement.{statement}
+use Rattle.rows.proofs.fit.skips.Tie as tie
 
 returns : tie.Need-returns
 returns c = simp (c .before .y .given .1)

@@ -1,8 +1,8 @@
--- `row::newer` meets its contract. Assumes nothing.
+-- `fit::newer` meets its contract. Assumes nothing.
 use borrow.Author.Needs.{needs}
 use Rattle.calculus.proofs.Tests.{join}
-use Rattle.rules.proofs.row.newer.Statement.{statement}
-use Rattle.rules.proofs.row.newer.Tie as tie
+use Rattle.rows.proofs.fit.newer.Statement.{statement}
+use Rattle.rows.proofs.fit.newer.Tie as tie
 
 returns : tie.Need-returns
 returns c = simp (join (c .before .fits2 .ensures) (c .if1 .taken))

@@ -1,8 +1,8 @@
--- `row::applies` meets its contract. Assumes nothing.
+-- `fit::applies` meets its contract. Assumes nothing.
 use borrow.Author.Tests.{eq-eqb, ne-eqb}
 use borrow.Author.Needs.{needs}
-use Rattle.rules.proofs.row.applies.Statement.{statement}
-use Rattle.rules.proofs.row.applies.Tie as tie
+use Rattle.rows.proofs.fit.applies.Statement.{statement}
+use Rattle.rows.proofs.fit.applies.Tie as tie
 
 returns : tie.Need-returns
 returns c =

@@ -1,9 +1,9 @@
--- `row::names` meets its contract. Assumes nothing.
+-- `fit::names` meets its contract. Assumes nothing.
 use borrow.Author.Tests.{eq-eqb, ne-eqb}
 use borrow.Author.Needs.{needs}
 use Rattle.calculus.proofs.Tests.{join}
-use Rattle.rules.proofs.row.names.Statement.{statement}
-use Rattle.rules.proofs.row.names.Tie as tie
+use Rattle.rows.proofs.fit.names.Statement.{statement}
+use Rattle.rows.proofs.fit.names.Tie as tie
 
 returns : tie.Need-returns
 returns c =

@@ -5,9 +5,9 @@ use mathlib.Core.Bool.{false}
 use Rattle.calculus.proofs.Tests.{join}
 use Rattle.model.specs.Row.{names, howMany}
 use Rattle.model.specs.Row as row
-use Rattle.rules.proofs.Searches.{Unmet, unmet-none, unmet-more, unmet-here, unmet-past, unmet-end}
-use Rattle.rules.proofs.row.admits.Statement.{statement}
-use Rattle.rules.proofs.row.admits.Tie as tie
+use Rattle.rows.proofs.Searches.{Unmet, unmet-none, unmet-more, unmet-here, unmet-past, unmet-end}
+use Rattle.rows.proofs.row.admits.Statement.{statement}
+use Rattle.rows.proofs.row.admits.Tie as tie
 
 abbrev Inv-loop : tie.InvT-loop
 Inv-loop held a q rows n i₀ i = Unmet (names false a q) held rows i

@@ -1,8 +1,8 @@
--- `row::fits` meets its contract. Assumes nothing.
+-- `fit::fits` meets its contract. Assumes nothing.
 use borrow.Author.Needs.{needs}
 use Rattle.calculus.proofs.Tests.{join}
-use Rattle.rules.proofs.row.fits.Statement.{statement}
-use Rattle.rules.proofs.row.fits.Tie as tie
+use Rattle.rows.proofs.fit.fits.Statement.{statement}
+use Rattle.rows.proofs.fit.fits.Tie as tie
 
 returns : tie.Need-returns
 returns c = simp (c .applies .ensures, join (c .before .before .same-way .ensures) (c .before .if1 .taken))

@@ -1,0 +1,4 @@
+// A session's rows: match, and the association that a row names.
+mod fit;
+mod lent;
+pub mod row;
