@@ -3,9 +3,9 @@
 // first dot and how many dots there are, then those bytes.
 use calculus::state::State;
 use forms::line::Line;
-use forms::line::next_line;
 use libc::STDIN_FILENO;
 use libc::STDOUT_FILENO;
+use lines::line_at;
 use simulator::call::Status;
 use simulator::call::call;
 use simulator::call::fresh;
@@ -92,7 +92,7 @@ fn put_lines(text: &[u8]) {
     let mut state = fresh();
     let mut from: usize = 0;
     loop {
-        match next_line(text, from) {
+        match line_at(text, from) {
             Line::Found { stop, next } => {
                 state = put_both(state, &text[from..stop]);
                 from = next;

@@ -1,9 +1,9 @@
 // The simulator as a program: a call on each line of standard input, the answers' lines on standard output.
 use calculus::state::State;
 use forms::line::Line;
-use forms::line::next_line;
 use libc::STDIN_FILENO;
 use libc::STDOUT_FILENO;
+use lines::line_at;
 use simulator::call::call;
 use simulator::call::fresh;
 ghost use Prim.Native.Nat.{_+_, _≤_, min};
@@ -19,7 +19,7 @@ const TOO_LONG: usize = 401;
 
 // How far the program has come: the state; how many bytes at the front of the input are of a line whose newline has not come;
 // how many bytes at the front of the output are of answers not yet written; whether it goes on.
-struct Feed {
+struct Progress {
     state: State,
     kept: usize,
     waiting: usize,
@@ -27,36 +27,36 @@ struct Feed {
 }
 
 // Writes the answers that wait. A failed write ends the program.
-fn flush(feed: Feed, out: &[u8]) -> Feed
-    requires { ⌜ feed .waiting ≤ length (now out) ⌝ }
-    ensures { λ r. ⌜ (r .waiting ≡ 0) × (r .kept ≡ feed .kept) ⌝ }
+fn flush(progress: Progress, out: &[u8]) -> Progress
+    requires { ⌜ progress .waiting ≤ length (now out) ⌝ }
+    ensures { λ r. ⌜ (r .waiting ≡ 0) × (r .kept ≡ progress .kept) ⌝ }
 {
-    let state = feed.state;
-    let waiting = feed.waiting;
+    let state = progress.state;
+    let waiting = progress.waiting;
     let written = io::write_all(STDOUT_FILENO, &out[..waiting]);
-    Feed {
+    Progress {
         state,
-        kept: feed.kept,
+        kept: progress.kept,
         waiting: 0,
-        going: feed.going && written,
+        going: progress.going && written,
     }
 }
 
 // Answers a line behind the answers that wait, and writes them all where there is no room for a further call.
-fn answer(feed: Feed, line: &[u8], out: &mut [u8]) -> Feed
-    requires { ⌜ feed .waiting + 65536 ≤ length (now out) ⌝ }
-    ensures { λ r. ⌜ (r .waiting + 65536 ≤ length (now (out .exit))) × (r .kept ≡ feed .kept) ⌝ }
+fn answer(progress: Progress, line: &[u8], out: &mut [u8]) -> Progress
+    requires { ⌜ progress .waiting + 65536 ≤ length (now out) ⌝ }
+    ensures { λ r. ⌜ (r .waiting + 65536 ≤ length (now (out .exit))) × (r .kept ≡ progress .kept) ⌝ }
 {
-    let before = feed.state;
-    let at = feed.waiting;
+    let before = progress.state;
+    let at = progress.waiting;
     let reply = call(before, line, &mut out[at..]);
     let state = reply.state;
     let waiting = at + reply.written;
-    let next = Feed {
+    let next = Progress {
         state,
-        kept: feed.kept,
+        kept: progress.kept,
         waiting,
-        going: feed.going,
+        going: progress.going,
     };
     if out.len() - waiting < ROOM {
         return flush(next, out);
@@ -65,14 +65,14 @@ fn answer(feed: Feed, line: &[u8], out: &mut [u8]) -> Feed
 }
 
 // Answers the lines of `text` that end in a newline. What stands behind the last newline is to be kept.
-fn answer_lines(feed: Feed, text: &[u8], out: &mut [u8]) -> Feed
-    requires { ⌜ feed .waiting + 65536 ≤ length (now out) ⌝ }
+fn answer_lines(progress: Progress, text: &[u8], out: &mut [u8]) -> Progress
+    requires { ⌜ progress .waiting + 65536 ≤ length (now out) ⌝ }
     ensures { λ r. ⌜ (r .waiting + 65536 ≤ length (now (out .exit))) × (r .kept ≤ length (now (text .entry))) ⌝ }
 {
-    let mut left = feed;
+    let mut left = progress;
     let mut from: usize = 0;
     while left.going {
-        match next_line(text, from) {
+        match line_at(text, from) {
             Line::Found { stop, next } => {
                 if stop == next {
                     break;
@@ -112,11 +112,11 @@ fn keep(input: &mut [u8], from: usize, to: usize) -> usize
 }
 
 // The end of the input: what is kept is a line too, if it is not empty.
-fn finish(feed: Feed, text: &[u8], out: &mut [u8]) -> Feed
-    requires { ⌜ feed .waiting + 65536 ≤ length (now out) ⌝ }
-    ensures { λ r. ⌜ (r .waiting + 65536 ≤ length (now (out .exit))) × (r .kept ≡ feed .kept) ⌝ }
+fn finish(progress: Progress, text: &[u8], out: &mut [u8]) -> Progress
+    requires { ⌜ progress .waiting + 65536 ≤ length (now out) ⌝ }
+    ensures { λ r. ⌜ (r .waiting + 65536 ≤ length (now (out .exit))) × (r .kept ≡ progress .kept) ⌝ }
 {
-    let mut last = feed;
+    let mut last = progress;
     last.going = false;
     if text.len() == 0 {
         return last;
@@ -136,45 +136,45 @@ fn read_more(input: &mut [u8], kept: usize) -> usize
 }
 
 // Answers the lines that end in the first `filled` bytes of the input, writes the answers, and keeps what stands behind.
-fn answer_input(feed: Feed, input: &mut [u8], filled: usize, out: &mut [u8]) -> Feed
-    requires { ⌜ (filled ≤ length (now input)) × (feed .waiting + 65536 ≤ length (now out)) ⌝ }
+fn answer_input(progress: Progress, input: &mut [u8], filled: usize, out: &mut [u8]) -> Progress
+    requires { ⌜ (filled ≤ length (now input)) × (progress .waiting + 65536 ≤ length (now out)) ⌝ }
     ensures { λ r. ⌜ (r .waiting + 65536 ≤ length (now (out .exit))) × (r .kept ≤ 401) ⌝ }
 {
-    let mut next = answer_lines(feed, &input[..filled], out);
+    let mut next = answer_lines(progress, &input[..filled], out);
     let from = filled - next.kept;
     next.kept = keep(input, from, filled);
     flush(next, out)
 }
 
 // One read, and what it brings.
-fn turn(feed: Feed, input: &mut [u8], out: &mut [u8]) -> Feed
-    requires { ⌜ (feed .kept ≤ 401) × (401 ≤ length (now input)) × (feed .waiting + 65536 ≤ length (now out)) ⌝ }
+fn read_once(progress: Progress, input: &mut [u8], out: &mut [u8]) -> Progress
+    requires { ⌜ (progress .kept ≤ 401) × (401 ≤ length (now input)) × (progress .waiting + 65536 ≤ length (now out)) ⌝ }
     ensures { λ r. ⌜ (r .waiting + 65536 ≤ length (now (out .exit))) × (r .kept ≤ 401) ⌝ }
 {
-    let kept = feed.kept;
+    let kept = progress.kept;
     let more = read_more(input, kept);
     if more == 0 {
-        return finish(feed, &input[..kept], out);
+        return finish(progress, &input[..kept], out);
     }
-    answer_input(feed, input, kept + more, out)
+    answer_input(progress, input, kept + more, out)
 }
 
-// A proved loop has to end, and nothing says that the input does: so the turns are counted, down from a number that no run
+// A proved loop has to end, and nothing says that the input does: so the reads are counted, down from a number that no run
 // uses up.
 fn run(input: &mut [u8], out: &mut [u8])
     requires { ⌜ (401 ≤ length (now input)) × (65536 ≤ length (now out)) ⌝ }
 {
     let state = fresh();
-    let mut feed = Feed {
+    let mut progress = Progress {
         state,
         kept: 0,
         waiting: 0,
         going: true,
     };
-    let mut turns = u64::MAX;
-    while turns > 0 && feed.going {
-        feed = turn(feed, input, out);
-        turns -= 1;
+    let mut reads = u64::MAX;
+    while reads > 0 && progress.going {
+        progress = read_once(progress, input, out);
+        reads -= 1;
     }
 }
 

@@ -21,7 +21,7 @@ inside : (c : tie.After-stop Inv-loop μ-loop)
     Inside (at .before .before .before .args .text .now) (at .loop .from) (c .stop .given .0 .0) (c .stop .given .0 .1 .0)
 inside c =
     let at = c .before .before .before .before in
-    line-inside (at .before .before .before .args .text .now) (at .loop .from) (c .stop .given .0 .0) (c .stop .given .0 .1 .0) (join (c .before .before .next-line .ensures) (c .stop .given .1))
+    line-inside (at .before .before .before .args .text .now) (at .loop .from) (c .stop .given .0 .0) (c .stop .given .0 .1 .0) (join (c .before .before .line-at .ensures) (c .stop .given .1))
 
 pub answer-lines-spec : {M : Type 1} → statement M
 answer-lines-spec =

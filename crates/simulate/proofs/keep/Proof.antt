@@ -1,4 +1,4 @@
--- `keep` meets its contract: what a turn reads stands behind what the turns before it wrote. Assumes nothing.
+-- `keep` meets its contract: what a turn of its loop reads stands behind what the turns before wrote. Assumes nothing.
 use mathlib.Core.Path.{_≡_, sym, ap, _∙_}
 use mathlib.Core.List.{List}
 use Prim.Native.Nat.{ℕ, _+_, _-_, _≤_, _<_}

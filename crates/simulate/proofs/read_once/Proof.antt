@@ -1,13 +1,13 @@
--- `turn` meets its contract. Assumes nothing.
+-- `read_once` meets its contract. Assumes nothing.
 use mathlib.Core.Path.{sym}
 use borrow.Author.Needs.{needs}
 use native.Mathlib.Omega.{arith}
 use lib.Seq.{length-take-le}
-use Rattle.simulate.proofs.turn.Statement.{statement}
-use Rattle.simulate.proofs.turn.Tie as tie
+use Rattle.simulate.proofs.read_once.Statement.{statement}
+use Rattle.simulate.proofs.read_once.Tie as tie
 
-pub turn-spec : {M : Type 1} → statement M
-turn-spec =
+pub read-once-spec : {M : Type 1} → statement M
+read-once-spec =
     tie.close
     (tie.spec
     (λ c κs. search needs)

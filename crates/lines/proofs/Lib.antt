@@ -1,0 +1,3 @@
+-- Laws that belong to no one function, and the worked examples.
+pub mod Held
+pub mod Cases

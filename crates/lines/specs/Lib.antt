@@ -1,0 +1,2 @@
+-- What the contract of `rest` cites.
+pub mod Behind
