@@ -125,7 +125,8 @@ fn parents(random: &mut Random, shape: Shape, size: usize) -> Vec<usize> {
     (0..size).map(parent).collect()
 }
 
-fn next_in_tree(parents: &[usize], at: usize, destination: usize) -> usize {
+/// The place after `at` on the way to `destination`.
+pub fn next_in_tree(parents: &[usize], at: usize, destination: usize) -> usize {
     let mut place = destination;
     while place != 0 {
         if parents[place] == at {
