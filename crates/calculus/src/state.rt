@@ -28,3 +28,10 @@ pub struct Turn {
     pub state: State,
     pub answer: Answer,
 }
+
+// What a request leaves of a session's part, and what it answers. `opens` tells that it is an accepted open.
+pub struct Moved {
+    pub opens: bool,
+    pub answer: Answer,
+    pub part: Part,
+}

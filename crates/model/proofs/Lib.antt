@@ -26,3 +26,5 @@ pub mod Refusals
 pub mod ShowLines
 pub mod Show
 pub mod Listings
+pub mod Turns
+pub mod Batch

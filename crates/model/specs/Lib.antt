@@ -8,6 +8,8 @@ pub mod Rules
 pub mod State
 pub mod Requests
 pub mod Calls
+pub mod Turn
+pub mod Batch
 pub mod Noninterference
 pub mod SetUp
 pub mod Refusals

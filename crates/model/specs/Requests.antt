@@ -65,25 +65,27 @@ abbrev pub withRoute : Network → ℕ → ℕ → ℕ → Network
 withRoute n a b next = record { nodes = n .nodes; routes = set (n .routes) (routePlace a b) next }
 
 -- node 5, 3
+abbrev pub nodeChecks : Bool → Network → ℕ → List Check
+nodeChecks opened n a = (opened, Late) ∷ (given n a, Double) ∷ []
+
 unfoldable pub nodeTurn : State → ℕ → Kind → List Bool → List Bool → Turn
-nodeTurn s a k has needs =
-    checked (refused s) ((s .opened, Late) ∷ (given (s .network) a, Double) ∷ [])
-    (accepted s (withNode (s .network) a k has needs))
+nodeTurn s a k has needs = checked (refused s) (nodeChecks (s .opened) (s .network) a) (accepted s (withNode (s .network) a k has needs))
 
 abbrev pub isFound : NextHop → Bool
 isFound (Found next) = true
 isFound Missing = false
 
 -- route 5, 4, 8, 3
-unfoldable pub routeTurn : State → ℕ → ℕ → ℕ → Turn
-routeTurn s a b next =
-    checked (refused s)
-    ((s .opened, Late)
-    ∷ (not (given (s .network) a && (given (s .network) b && given (s .network) next)), Unknown)
+abbrev pub routeChecks : Bool → Network → ℕ → ℕ → ℕ → List Check
+routeChecks opened n a b next =
+    (opened, Late)
+    ∷ (not (given n a && (given n b && given n next)), Unknown)
     ∷ (eqb a b || eqb a next, Same)
-    ∷ (isFound (nextHop (s .network) a b), Double)
-    ∷ [])
-    (accepted s (withRoute (s .network) a b next))
+    ∷ (isFound (nextHop n a b), Double)
+    ∷ []
+
+unfoldable pub routeTurn : State → ℕ → ℕ → ℕ → Turn
+routeTurn s a b next = checked (refused s) (routeChecks (s .opened) (s .network) a b next) (accepted s (withRoute (s .network) a b next))
 
 -- ---- a session's requests: moves of its own part
 
