@@ -25,7 +25,8 @@ fn node_at(n: Network, a: u8) -> Node
 {
     if is_node(a as u64) {
         let at = a as usize - 1;
-        return n.nodes[at];
+        let nodes = n.nodes;
+        return nodes[at];
     }
     no_node()
 }
@@ -73,7 +74,8 @@ pub fn next_hop(n: Network, a: u8, b: u8) -> NextHop
     if is_node(a as u64) {
         if is_node(b as u64) {
             let at = 32 * (a as usize - 1) + (b as usize - 1);
-            let next = n.routes[at];
+            let routes = n.routes;
+            let next = routes[at];
             return hop(next);
         }
     }

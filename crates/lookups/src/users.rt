@@ -29,8 +29,8 @@ fn place(out: bool, a: u8, q: u8) -> usize
 }
 
 // Whether In(a, q) or Out(a, q) stands; none does where a or q is no node.
-pub fn stands(users: [u16; 2048], out: bool, a: u8, q: u8) -> bool
-    ensures { λ r. ⌜ r ≡ spec.stands users out a q ⌝ }
+pub fn stands(users: &[u16; 2048], out: bool, a: u8, q: u8) -> bool
+    ensures { λ r. ⌜ r ≡ spec.stands (now (users .entry)) out a q ⌝ }
 {
     if are_nodes(a, q) {
         let at = place(out, a, q);
@@ -56,41 +56,35 @@ fn moved(more: bool, n: u16) -> u16
 }
 
 // The users once a row has come, or has gone.
-fn with_row(users: [u16; 2048], more: bool, r: Row) -> [u16; 2048]
-    ensures { λ x. ⌜ x ≡ spec.withUsers (cond more spec.oneMore spec.oneLess) users r ⌝ }
+fn with_row(users: &mut [u16; 2048], more: bool, r: Row)
+    ensures { λ _. ⌜ now (users .exit) ≡ spec.withUsers (cond more spec.oneMore spec.oneLess) (now (users .entry)) r ⌝ }
 {
     if are_nodes(r.node, r.peer) {
         let at = place(r.out, r.node, r.peer);
         let n = users[at];
-        let mut next = users;
-        next[at] = moved(more, n);
-        return next;
+        users[at] = moved(more, n);
     }
-    users
 }
 
 // The users once a row has come; as they were where its node or its peer is no node, or where they are 65,535.
-pub fn raise(users: [u16; 2048], r: Row) -> [u16; 2048]
-    ensures { λ x. ⌜ x ≡ spec.withUsers spec.oneMore users r ⌝ }
+pub fn raise(users: &mut [u16; 2048], r: Row)
+    ensures { λ _. ⌜ now (users .exit) ≡ spec.withUsers spec.oneMore (now (users .entry)) r ⌝ }
 {
-    with_row(users, true, r)
+    with_row(users, true, r);
 }
 
 // The users once the first `held` rows have gone, of each as in `raise`; 0 stays.
-pub fn lower(users: [u16; 2048], rows: [Row; 32], held: u8) -> [u16; 2048]
-    ensures { λ x. ⌜ x ≡ spec.lowered users (take held rows) ⌝ }
+pub fn lower(users: &mut [u16; 2048], rows: [Row; 32], held: u8)
+    ensures { λ _. ⌜ now (users .exit) ≡ spec.lowered (now (users .entry)) (take held rows) ⌝ }
 {
     let n = held as usize;
-    let mut left = users;
     let mut i: usize = 0;
     while i < 32 {
         if n <= i {
-            return left;
+            return;
         }
         let row = rows[i];
-        let next = with_row(left, false, row);
-        left = next;
+        with_row(users, false, row);
         i += 1;
     }
-    left
 }

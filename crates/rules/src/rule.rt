@@ -39,8 +39,8 @@ fn wire_at(n: Network, s: Session, a: u8, p: Packet, h: u8) -> Effect
 }
 
 // Whether the header is from some q, and In(a, q) stands.
-fn header_stands(users: [u16; 2048], a: u8, h: Header) -> bool
-    ensures { λ r. ⌜ r ≡ spec.headerStands (row.stands users false) a h ⌝ }
+fn header_stands(users: &[u16; 2048], a: u8, h: Header) -> bool
+    ensures { λ r. ⌜ r ≡ spec.headerStands (row.stands (now (users .entry)) false) a h ⌝ }
 {
     match h {
         Header::Bare => false,
@@ -60,8 +60,8 @@ fn never_met() -> Effect
 }
 
 // What the item's rule does, for the session whose part is `t`.
-pub fn rule(n: Network, users: [u16; 2048], t: Part, i: Item) -> Effect
-    ensures { λ r. ⌜ r ≡ spec.rule n (row.stands users false) t i ⌝ }
+pub fn rule(n: Network, users: &[u16; 2048], t: Part, i: Item) -> Effect
+    ensures { λ r. ⌜ r ≡ spec.rule n (row.stands (now (users .entry)) false) t i ⌝ }
 {
     let s = t.session;
     let rows = t.rows;

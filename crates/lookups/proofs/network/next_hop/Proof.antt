@@ -37,4 +37,4 @@ returns-3 c = simp (join (c .before .is-node .ensures) (c .if1 .left))
 pub next-hop-spec : {M : Type 1} → statement M
 next-hop-spec =
     tie.close
-    (tie.spec (λ c κs. search needs) (λ c κs. search needs) (λ c. omega (arith, range c)) (λ c. search needs) (λ c. omega (arith, range c)) (λ c. search needs) (λ c. omega (arith, range c)) (λ c κs. search needs) returns returns-2 returns-3)
+    (tie.spec (λ c κs. search needs) (λ c κs. search needs) (λ c. omega (arith, range c)) (λ c. search needs) (λ c. omega (arith, range c)) (λ c. search needs) (λ c. omega (arith, range (c .before))) (λ c κs. search needs) returns returns-2 returns-3)

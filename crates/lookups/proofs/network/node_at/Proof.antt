@@ -15,10 +15,10 @@ range c = within-bounds 1 32 _ (join (c .before .is-node .ensures) (c .if1 .take
 returns : tie.Need-returns
 unfolding nodeAt
 returns c =
-    let c₃ = c .before .before .before in
-    let h : c₃ .args .a - 1 < 32 = omega (arith, range (c .before)) in
-    getD-within (c₃ .args .t1 .nodes) (c₃ .args .a - 1) _ noNode (search (needs, below-mapped, h))
-    ∙ rw (join (c .before .before .is-node .ensures) (c .before .if1 .taken))
+    let c₄ = c .before .before .before .before in
+    let h : c₄ .args .a - 1 < 32 = omega (arith, range (c .before .before)) in
+    getD-within (c₄ .args .n .nodes) (c₄ .args .a - 1) _ noNode (search (needs, below-mapped, h))
+    ∙ rw (join (c .before .before .before .is-node .ensures) (c .before .before .if1 .taken))
 
 returns-2 : tie.Need-returns-2
 unfolding nodeAt
@@ -27,4 +27,4 @@ returns-2 c = simp (c .no-node .ensures, join (c .before .before .is-node .ensur
 pub node-at-spec : {M : Type 1} → statement M
 node-at-spec =
     tie.close
-    (tie.spec (λ c κs. search needs) (λ c. omega (arith, range c)) (λ c. search needs) (λ c. omega (arith, range c)) returns (λ c κs. search needs) returns-2)
+    (tie.spec (λ c κs. search needs) (λ c. omega (arith, range c)) (λ c. search needs) (λ c. omega (arith, range (c .before))) returns (λ c κs. search needs) returns-2)

@@ -7,10 +7,10 @@ use Rattle.lookups.proofs.users.lower.Statement.{statement}
 use Rattle.lookups.proofs.users.lower.Tie as tie
 
 abbrev Inv-loop : tie.InvT-loop
-Inv-loop held rows n left₀ i₀ left i = Walked (withUsers oneLess) left₀ held rows left i
+Inv-loop users₀ held rows n i₀ users i = Walked (withUsers oneLess) users₀ held rows users i
 
 abbrev μ-loop : tie.MeasureT-loop
-μ-loop held rows n left₀ i₀ left i = 32 - i
+μ-loop users₀ held rows n i₀ users i = 32 - i
 
 loop-holds : tie.Need-loop-holds Inv-loop μ-loop
 loop-holds c = walked-none
@@ -20,7 +20,7 @@ returns c = walked-past (c .before .before .loop .inv) (c .if1 .taken)
 
 loop-again : tie.Need-loop-again Inv-loop μ-loop
 loop-again c =
-    rw (c .with-row .ensures) (walked-more (c .before .before .before .before .loop .inv) _ (search needs) (c .before .before .if1 .left))
+    rw (c .with-row .ensures) (walked-more (c .before .before .before .before .before .loop .inv) _ (search needs) (c .before .before .before .if1 .left))
 
 returns-2 : tie.Need-returns-2 Inv-loop μ-loop
 returns-2 c = walked-end (c .before .loop .inv) (search needs)

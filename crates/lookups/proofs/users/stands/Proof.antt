@@ -11,7 +11,7 @@ place-requires c κs = nodes-bounds _ _ (join (c .before .are-nodes .ensures) (c
 
 returns : tie.Need-returns
 unfolding usersOf
-returns c = simp (c .place .ensures .0, join (c .before .before .are-nodes .ensures) (c .before .if1 .taken))
+returns c = simp (c .before .place .ensures .0, join (c .before .before .before .are-nodes .ensures) (c .before .before .if1 .taken))
 
 returns-2 : tie.Need-returns-2
 unfolding usersOf

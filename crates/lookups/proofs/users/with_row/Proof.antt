@@ -14,8 +14,8 @@ unfolding withUsers
 returns c =
     simp (
       c .moved .ensures,
-      c .before .place .ensures .0,
-      join (c .before .before .before .are-nodes .ensures) (c .before .before .if1 .taken),
+      c .before .before .place .ensures .0,
+      join (c .before .before .before .before .are-nodes .ensures) (c .before .before .before .if1 .taken),
     )
 
 returns-2 : tie.Need-returns-2
