@@ -1,7 +1,7 @@
 -- Walks over a list from its front: a search that stops at the first place, and a count. Assumes nothing.
-use mathlib.Core.Path.{_≡_, sym}
+use mathlib.Core.Path.{_≡_, refl, sym, ap}
 use mathlib.Core.Bool.{Bool, true, false, cond}
-use mathlib.Core.List.{List}
+use mathlib.Core.List.{List, [], _∷_}
 use Prim.Native.Nat.{ℕ, suc, _+_, _≤_, _<_}
 use native.Mathlib.Nat.{zero-add}
 use native.Mathlib.Numerals.{add-one}
@@ -19,6 +19,11 @@ pub record Sought {A : Type 0} (f : A → Bool) (l : List A) (i : ℕ) : Type 0 
 pub record Counted {A : Type 0} (f : A → Bool) (l : List A) (n i : ℕ) : Type 0 where
   pub same : tally f l ≡ n + tally f (drop i l)
   pub few : n ≤ i
+
+-- what never holds is found nowhere
+pub place-never : {A : Type 0} (l : List A) → place (λ a. false) l ≡ length l
+place-never [] = refl
+place-never (a ∷ l) = ap suc (place-never l)
 
 module _ {A : Type 0} {f : A → Bool} {l : List A} where
   pub sought-none : Sought f l 0

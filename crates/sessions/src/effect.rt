@@ -1,5 +1,4 @@
 // An effect applied to a session's part.
-use crate::blank::blank_slot;
 use crate::items::put_item;
 use crate::items::set_slot;
 use crate::items::use_up;
@@ -14,6 +13,7 @@ use calculus::session::Row;
 use calculus::session::Session;
 use calculus::session::Stage;
 use calculus::state::Part;
+use lookups::blank::blank_slot;
 use lookups::users::raise;
 ghost use mathlib.Core.Path.{_≡_};
 ghost use Prim.Native.Nat.{_+_, _≤_};
@@ -138,20 +138,18 @@ fn rows_after(rows: [Row; 32], held: u8, added: Added) -> [Row; 32]
 }
 
 // The users once the rows are added.
-pub fn users_after(users: [u16; 2048], held: u8, added: Added) -> [u16; 2048]
-    ensures { λ x. ⌜ x ≡ row.raised users (spec.placed held added) ⌝ }
+pub fn users_after(users: &mut [u16; 2048], held: u8, added: Added)
+    ensures { λ _. ⌜ now (users .exit) ≡ row.raised (now (users .entry)) (spec.placed held added) ⌝ }
 {
     match added {
-        Added::NoRows => users,
+        Added::NoRows => {}
         Added::Two(r, q) => {
-            if held < 31 {
-                let one = raise(users, r);
-                return raise(one, q);
-            }
             if held < 32 {
-                return raise(users, r);
+                raise(users, r);
             }
-            users
+            if held < 31 {
+                raise(users, q);
+            }
         }
     }
 }

@@ -1,11 +1,11 @@
 // Items, and the sixteen places that hold a session's.
-use crate::blank::blank_slot;
 use calculus::effect::Wait;
 use calculus::number::ItemNumber;
 use calculus::packet::Item;
 use calculus::packet::Packet;
 use calculus::packet::Payload;
 use calculus::packet::Slot;
+use lookups::blank::blank_slot;
 ghost use mathlib.Core.Path.{_≡_};
 ghost use mathlib.Core.Bool.{cond, _&&_};
 ghost use Prim.Native.Nat.{_+_, _≤_};
@@ -182,21 +182,6 @@ fn count_one(n: usize, s: Slot) -> usize
 
 // ---- sixteen places
 
-// The first free place, or 16.
-fn find_vacant(items: [Slot; 16]) -> usize
-    ensures { λ r. ⌜ r ≡ lists.place spec.vacant items ⌝ }
-{
-    let mut i: usize = 0;
-    while i < 16 {
-        let slot = items[i];
-        if is_vacant(slot) {
-            return i;
-        }
-        i += 1;
-    }
-    i
-}
-
 // The place of the item with the number `k`, or 16.
 pub fn find_numbered(items: [Slot; 16], k: u32) -> usize
     ensures { λ r. ⌜ r ≡ lists.place (state.isNumbered k) items ⌝ }
@@ -256,22 +241,30 @@ pub fn set_slot(items: [Slot; 16], at: usize, s: Slot) -> [Slot; 16]
 pub fn use_up(items: [Slot; 16], w: Wait) -> [Slot; 16]
     ensures { λ r. ⌜ r ≡ state.useUp items w ⌝ }
 {
-    let at = find_wait(items, w);
-    let blank = blank_slot();
-    set_slot(items, at, blank)
+    if is_some_wait(w) {
+        let at = find_wait(items, w);
+        let blank = blank_slot();
+        return set_slot(items, at, blank);
+    }
+    items
 }
 
-// Item `i`, with the number `n`, goes to the first free place.
+// Item `i`, with the number `n`, goes to the first free place; with none free it is dropped.
 pub fn put_item(items: [Slot; 16], n: u32, i: Item) -> [Slot; 16]
     ensures { λ r. ⌜ r ≡ state.putItem items n i ⌝ }
 {
-    let at = find_vacant(items);
-    set_slot(
-        items,
-        at,
-        Slot {
-            number: ItemNumber(n),
-            item: i,
-        },
-    )
+    let mut next = items;
+    let mut at: usize = 0;
+    while at < 16 {
+        let slot = next[at];
+        if is_vacant(slot) {
+            next[at] = Slot {
+                number: ItemNumber(n),
+                item: i,
+            };
+            return next;
+        }
+        at += 1;
+    }
+    next
 }

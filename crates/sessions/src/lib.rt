@@ -1,5 +1,4 @@
 // A session's requests: what each does to the session's own part, and to the users.
-pub mod blank;
 mod effect;
 mod items;
 pub mod requests;

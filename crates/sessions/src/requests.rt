@@ -1,7 +1,5 @@
 // A session's requests. Each is a function of the network, the users and the session's own part; its refusals stand in document
 // 01's order.
-use crate::blank::blank_row;
-use crate::blank::blank_slot;
 use crate::effect::answer_of;
 use crate::effect::applied;
 use crate::effect::users_after;
@@ -20,7 +18,10 @@ use calculus::packet::Slot;
 use calculus::request::Sender;
 use calculus::session::Session;
 use calculus::session::Stage;
+use calculus::state::Moved;
 use calculus::state::Part;
+use lookups::blank::blank_row;
+use lookups::blank::blank_slot;
 use lookups::network::given;
 use lookups::network::is_gateway;
 use lookups::users::lower;
@@ -34,27 +35,15 @@ ghost use Rattle.model.specs.Item.{howManyItems, isDataItem};
 ghost use Rattle.model.specs.Network as network;
 ghost use Rattle.model.specs.Row.{stands};
 ghost use Rattle.model.specs.Requests as spec;
-ghost use Rattle.sessions.specs.Moved.{moving};
+ghost use Rattle.model.specs.Turn.{moving, Moves};
 
-// What a request answers, and what it leaves of the session's part and of the users: both as they were where it is not
-// accepted. `opens` tells that it is an accepted open.
-pub struct Moved {
-    pub accepted: bool,
-    pub opens: bool,
-    pub answer: Answer,
-    pub part: Part,
-    pub users: [u16; 2048],
-}
-
-fn refused(users: [u16; 2048], t: Part, r: Refusal) -> Moved
-    ensures { λ x. ⌜ x ≡ moving users t (spec.refuse r) ⌝ }
+fn refused(t: Part, r: Refusal) -> Moved
+    ensures { λ x. ⌜ x ≡ moving t (spec.refuse r) ⌝ }
 {
     Moved {
-        accepted: false,
         opens: false,
         answer: Answer::No(r),
         part: t,
-        users,
     }
 }
 
@@ -128,86 +117,82 @@ fn opening(t: Part, c: u8, d: u8) -> Part
 }
 
 // open u c d, where `t` is u's part: refusals 6, 4, 8, 9, 10.
-pub fn open(n: Network, users: [u16; 2048], t: Part, c: u8, d: u8) -> Moved
-    ensures { λ r. ⌜ r ≡ moving users t (spec.openMove n c d t) ⌝ }
+pub fn open(n: Network, t: Part, c: u8, d: u8) -> Moved
+    ensures { λ r. ⌜ r ≡ moving t (spec.openMove n c d t) ⌝ }
 {
     let s = t.session;
     let stage = s.stage;
     if is_in_use(stage) {
-        return refused(users, t, Refusal::Taken);
+        return refused(t, Refusal::Taken);
     }
     if is_end_unknown(n, c, d) {
-        return refused(users, t, Refusal::Unknown);
+        return refused(t, Refusal::Unknown);
     }
     if c == d {
-        return refused(users, t, Refusal::Same);
+        return refused(t, Refusal::Same);
     }
     if has_gateway(n, c, d) {
-        return refused(users, t, Refusal::Gateway);
+        return refused(t, Refusal::Gateway);
     }
     if 999998 < s.last {
-        return refused(users, t, Refusal::Spent);
+        return refused(t, Refusal::Spent);
     }
     let part = opening(t, c, d);
     Moved {
-        accepted: true,
         opens: true,
         answer: Answer::Made(ItemNumber(s.last + 1)),
         part,
-        users,
     }
 }
 
 // ---- step
 
 // What the effect of the item at `at` leaves.
-fn stepped(users: [u16; 2048], t: Part, at: usize, f: Effect) -> Moved
+fn stepped(users: &mut [u16; 2048], t: Part, at: usize, f: Effect) -> Moved
     requires { ⌜ t .session .last ≤ 999998 ⌝ }
-    ensures { λ r. ⌜ r ≡ moving users t (spec.stepped t at f) ⌝ }
+    ensures { λ r. ⌜ Moves (now (users .entry)) t (spec.stepped t at f) (now (users .exit)) r ⌝ }
 {
     let s = t.session;
     let outcome = f.outcome;
     let added = f.added;
     let answer = answer_of(s.last, outcome);
     let part = applied(t, at, f);
-    let raised = users_after(users, s.rows, added);
+    users_after(users, s.rows, added);
     Moved {
-        accepted: true,
         opens: false,
         answer,
         part,
-        users: raised,
     }
 }
 
 // A step of the item at `at`, or of none where that is past the places: refusals 7, 11, 12, 10.
-fn step_at(n: Network, users: [u16; 2048], t: Part, at: usize) -> Moved
-    ensures { λ r. ⌜ r ≡ moving users t (spec.stepAt n (stands users false) t at) ⌝ }
+fn step_at(n: Network, users: &mut [u16; 2048], t: Part, at: usize) -> Moved
+    ensures { λ r. ⌜ Moves (now (users .entry)) t (spec.stepAt n (stands (now (users .entry)) false) t at) (now (users .exit)) r ⌝ }
 {
     let s = t.session;
     let stage = s.stage;
     let items = t.items;
     if is_unused(stage) {
-        return refused(users, t, Refusal::Idle);
+        return refused(t, Refusal::Idle);
     }
     if 16 <= at {
-        return refused(users, t, Refusal::NoItem);
+        return refused(t, Refusal::NoItem);
     }
     let slot = items[at];
     let item = slot.item;
     if is_wait(item) {
-        return refused(users, t, Refusal::Waiting);
+        return refused(t, Refusal::Waiting);
     }
     if 999998 < s.last {
-        return refused(users, t, Refusal::Spent);
+        return refused(t, Refusal::Spent);
     }
     let effect = rule(n, users, t, item);
     stepped(users, t, at, effect)
 }
 
 // step u k, where `t` is u's part.
-pub fn step(n: Network, users: [u16; 2048], t: Part, k: ItemNumber) -> Moved
-    ensures { λ r. ⌜ r ≡ moving users t (spec.stepMove n (stands users false) (k .0) t) ⌝ }
+pub fn step(n: Network, users: &mut [u16; 2048], t: Part, k: ItemNumber) -> Moved
+    ensures { λ r. ⌜ Moves (now (users .entry)) t (spec.stepMove n (stands (now (users .entry)) false) (k .0) t) (now (users .exit)) r ⌝ }
 {
     let items = t.items;
     let at = find_numbered(items, k.0);
@@ -250,28 +235,26 @@ fn is_full(items: [Slot; 16]) -> bool
 }
 
 // send u w tag, where `t` is u's part: refusals 7, 13, 10.
-pub fn send(users: [u16; 2048], t: Part, w: Sender, tag: u32) -> Moved
-    ensures { λ r. ⌜ r ≡ moving users t (spec.sendMove w tag t) ⌝ }
+pub fn send(t: Part, w: Sender, tag: u32) -> Moved
+    ensures { λ r. ⌜ r ≡ moving t (spec.sendMove w tag t) ⌝ }
 {
     let s = t.session;
     let stage = s.stage;
     let items = t.items;
     if is_unused(stage) {
-        return refused(users, t, Refusal::Idle);
+        return refused(t, Refusal::Idle);
     }
     if is_full(items) {
-        return refused(users, t, Refusal::Full);
+        return refused(t, Refusal::Full);
     }
     if 999998 < s.last {
-        return refused(users, t, Refusal::Spent);
+        return refused(t, Refusal::Spent);
     }
     let part = sending(t, w, tag);
     Moved {
-        accepted: true,
         opens: false,
         answer: Answer::Made(ItemNumber(s.last + 1)),
         part,
-        users,
     }
 }
 
@@ -298,22 +281,20 @@ fn closing(t: Part) -> Part
 }
 
 // close u, where `t` is u's part: refusal 7.
-pub fn close(users: [u16; 2048], t: Part) -> Moved
-    ensures { λ r. ⌜ r ≡ moving users t (spec.closeMove t) ⌝ }
+pub fn close(users: &mut [u16; 2048], t: Part) -> Moved
+    ensures { λ r. ⌜ Moves (now (users .entry)) t (spec.closeMove t) (now (users .exit)) r ⌝ }
 {
     let s = t.session;
     let stage = s.stage;
     if is_unused(stage) {
-        return refused(users, t, Refusal::Idle);
+        return refused(t, Refusal::Idle);
     }
     let rows = t.rows;
-    let lowered = lower(users, rows, s.rows);
+    lower(users, rows, s.rows);
     let part = closing(t);
     Moved {
-        accepted: true,
         opens: false,
         answer: Answer::Closed,
         part,
-        users: lowered,
     }
 }

@@ -1,5 +1,6 @@
 -- `requests::close` meets its contract. Assumes nothing.
 use borrow.Author.Needs.{needs}
+use mathlib.Core.Path.{refl}
 use Rattle.calculus.proofs.Tests.{join}
 use Rattle.model.specs.Requests.{closeMove, checked}
 use Rattle.sessions.proofs.requests.close.Statement.{statement}
@@ -7,16 +8,15 @@ use Rattle.sessions.proofs.requests.close.Tie as tie
 
 returns : tie.Need-returns
 unfolding closeMove checked
-returns c = simp (c .refused .ensures, join (c .before .before .is-unused .ensures) (c .before .if1 .taken))
+returns c =
+    simp (join (c .before .before .is-unused .ensures) (c .before .if1 .taken)) (record { part = c .refused .ensures; shared = refl })
 
 returns-2 : tie.Need-returns-2
 unfolding closeMove checked
 returns-2 c =
-    simp (
-      c .closing .ensures,
-      c .before .lower .ensures,
-      join (c .before .before .before .before .is-unused .ensures) (c .before .before .before .if1 .left),
-    )
+    let c₄ = c .before .before .before .before in
+    simp (join (c₄ .before .is-unused .ensures) (c₄ .if1 .left))
+    (record { part = simp (c .closing .ensures); shared = c .before .lower .ensures })
 
 pub close-spec : {M : Type 1} → statement M
 close-spec =

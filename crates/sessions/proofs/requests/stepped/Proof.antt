@@ -6,7 +6,11 @@ use Rattle.sessions.proofs.requests.stepped.Tie as tie
 
 returns : tie.Need-returns
 unfolding stepped
-returns c = simp (c .users-after .ensures, c .before .applied .ensures, c .before .before .answer-of .ensures)
+returns c =
+    record {
+      part = simp (c .before .before .applied .ensures, c .before .before .before .answer-of .ensures);
+      shared = c .users-after .ensures;
+    }
 
 pub stepped-spec : {M : Type 1} → statement M
 stepped-spec =

@@ -1,2 +1,0 @@
--- What the contracts of `sessions` cite.
-pub mod Moved
