@@ -1,91 +1,55 @@
 // The simulator as a program: a call on each line of standard input, the answers' lines on standard output.
 use calculus::state::State;
-use forms::line::Line;
 use libc::STDIN_FILENO;
 use libc::STDOUT_FILENO;
-use lines::line_at;
 use simulator::call::call;
 use simulator::call::fresh;
+use simulator::calls::calls;
 ghost use Prim.Native.Nat.{_+_, _≤_, min};
 ghost use mathlib.Core.Path.{_≡_};
 ghost use lib.ListN.{length};
 ghost use Rattle.simulate.specs.Keep.{Keeps};
 
-// The room that a call's lent output has to have.
-const ROOM: usize = 65536;
-
 // So many bytes are too many for a form, whatever follows them in their line.
 const TOO_LONG: usize = 401;
 
 // How far the program has come: the state; how many bytes at the front of the input are of a line whose newline has not come;
-// how many bytes at the front of the output are of answers not yet written; whether it goes on.
+// whether it goes on.
 struct Progress {
     state: State,
     kept: usize,
-    waiting: usize,
     going: bool,
 }
 
-// Writes the answers that wait. A failed write ends the program.
-fn flush(progress: Progress, out: &[u8]) -> Progress
-    requires { ⌜ progress .waiting ≤ length (now out) ⌝ }
-    ensures { λ r. ⌜ (r .waiting ≡ 0) × (r .kept ≡ progress .kept) ⌝ }
-{
-    let state = progress.state;
-    let waiting = progress.waiting;
-    let written = io::write_all(STDOUT_FILENO, &out[..waiting]);
-    Progress {
-        state,
-        kept: progress.kept,
-        waiting: 0,
-        going: progress.going && written,
-    }
-}
-
-// Answers a line behind the answers that wait, and writes them all where there is no room for a further call.
-fn answer(progress: Progress, line: &[u8], out: &mut [u8]) -> Progress
-    requires { ⌜ progress .waiting + 65536 ≤ length (now out) ⌝ }
-    ensures { λ r. ⌜ (r .waiting + 65536 ≤ length (now (out .exit))) × (r .kept ≡ progress .kept) ⌝ }
+// Answers lines of `text` that end in a newline, as many as the output has room for, and writes the answers; what stands behind
+// them is to be kept. A failed write ends the program.
+fn answer_some(progress: Progress, text: &[u8], out: &mut [u8]) -> Progress
+    ensures { λ r. ⌜ r .kept ≤ length (now (text .entry)) ⌝ }
 {
     let before = progress.state;
-    let at = progress.waiting;
-    let reply = call(before, line, &mut out[at..]);
-    let state = reply.state;
-    let waiting = at + reply.written;
-    let next = Progress {
+    let answered = calls(before, text, out);
+    let state = answered.state;
+    let written = answered.written;
+    let going = io::write_all(STDOUT_FILENO, &out[..written]);
+    Progress {
         state,
-        kept: progress.kept,
-        waiting,
-        going: progress.going,
-    };
-    if out.len() - waiting < ROOM {
-        return flush(next, out);
+        kept: text.len() - answered.read,
+        going,
     }
-    next
 }
 
 // Answers the lines of `text` that end in a newline. What stands behind the last newline is to be kept.
 fn answer_lines(progress: Progress, text: &[u8], out: &mut [u8]) -> Progress
-    requires { ⌜ progress .waiting + 65536 ≤ length (now out) ⌝ }
-    ensures { λ r. ⌜ (r .waiting + 65536 ≤ length (now (out .exit))) × (r .kept ≤ length (now (text .entry))) ⌝ }
+    ensures { λ r. ⌜ r .kept ≤ length (now (text .entry)) ⌝ }
 {
-    let mut left = progress;
-    let mut from: usize = 0;
-    while left.going {
-        match line_at(text, from) {
-            Line::Found { stop, next } => {
-                if stop == next {
-                    break;
-                }
-                left = answer(left, &text[from..stop], out);
-                from = next;
-            }
-            Line::End => {
-                break;
-            }
-        }
+    let mut left = answer_some(progress, text, out);
+    let mut before = text.len();
+    while left.kept < before && left.going {
+        before = left.kept;
+        let from = text.len() - before;
+        let next = answer_some(left, &text[from..], out);
+        left = next;
     }
-    left.kept = text.len() - from;
     left
 }
 
@@ -113,16 +77,18 @@ fn keep(input: &mut [u8], from: usize, to: usize) -> usize
 
 // The end of the input: what is kept is a line too, if it is not empty.
 fn finish(progress: Progress, text: &[u8], out: &mut [u8]) -> Progress
-    requires { ⌜ progress .waiting + 65536 ≤ length (now out) ⌝ }
-    ensures { λ r. ⌜ (r .waiting + 65536 ≤ length (now (out .exit))) × (r .kept ≡ progress .kept) ⌝ }
+    ensures { λ r. ⌜ r .kept ≡ progress .kept ⌝ }
 {
     let mut last = progress;
     last.going = false;
     if text.len() == 0 {
         return last;
     }
-    let answered = answer(last, text, out);
-    flush(answered, out)
+    let before = progress.state;
+    let reply = call(before, text, out);
+    let written = reply.written;
+    io::write_all(STDOUT_FILENO, &out[..written]);
+    last
 }
 
 // One read behind the bytes that are kept, which takes what there is: how many bytes came, 0 at the end of the input. A read
@@ -135,21 +101,21 @@ fn read_more(input: &mut [u8], kept: usize) -> usize
     io::count(got, &input[kept..])
 }
 
-// Answers the lines that end in the first `filled` bytes of the input, writes the answers, and keeps what stands behind.
+// Answers the lines that end in the first `filled` bytes of the input, and keeps what stands behind.
 fn answer_input(progress: Progress, input: &mut [u8], filled: usize, out: &mut [u8]) -> Progress
-    requires { ⌜ (filled ≤ length (now input)) × (progress .waiting + 65536 ≤ length (now out)) ⌝ }
-    ensures { λ r. ⌜ (r .waiting + 65536 ≤ length (now (out .exit))) × (r .kept ≤ 401) ⌝ }
+    requires { ⌜ filled ≤ length (now input) ⌝ }
+    ensures { λ r. ⌜ r .kept ≤ 401 ⌝ }
 {
     let mut next = answer_lines(progress, &input[..filled], out);
     let from = filled - next.kept;
     next.kept = keep(input, from, filled);
-    flush(next, out)
+    next
 }
 
 // One read, and what it brings.
 fn read_once(progress: Progress, input: &mut [u8], out: &mut [u8]) -> Progress
-    requires { ⌜ (progress .kept ≤ 401) × (401 ≤ length (now input)) × (progress .waiting + 65536 ≤ length (now out)) ⌝ }
-    ensures { λ r. ⌜ (r .waiting + 65536 ≤ length (now (out .exit))) × (r .kept ≤ 401) ⌝ }
+    requires { ⌜ (progress .kept ≤ 401) × (401 ≤ length (now input)) ⌝ }
+    ensures { λ r. ⌜ r .kept ≤ 401 ⌝ }
 {
     let kept = progress.kept;
     let more = read_more(input, kept);
@@ -162,13 +128,12 @@ fn read_once(progress: Progress, input: &mut [u8], out: &mut [u8]) -> Progress
 // A proved loop has to end, and nothing says that the input does: so the reads are counted, down from a number that no run
 // uses up.
 fn run(input: &mut [u8], out: &mut [u8])
-    requires { ⌜ (401 ≤ length (now input)) × (65536 ≤ length (now out)) ⌝ }
+    requires { ⌜ 401 ≤ length (now input) ⌝ }
 {
     let state = fresh();
     let mut progress = Progress {
         state,
         kept: 0,
-        waiting: 0,
         going: true,
     };
     let mut reads = u64::MAX;

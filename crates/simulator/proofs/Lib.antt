@@ -1,7 +1,10 @@
 -- Laws that belong to no one function.
+pub mod Batches
 pub mod Copies
 pub mod Lines
+pub mod Packs
 pub mod Range
+pub mod Replied
 pub mod Shown
-pub mod Turns
+pub mod Sizes
 pub mod Widths

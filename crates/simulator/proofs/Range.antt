@@ -3,20 +3,18 @@ use mathlib.Core.Path.{_≡_}
 use mathlib.Core.Bool.{Bool, true, _&&_}
 use mathlib.Core.Option.{Option, none, some}
 use Prim.Native.Nat.{ℕ, _≤_}
+use native.Mathlib.Omega.{arith}
 use Rattle.calculus.specs.Number.{within, isNode}
 use Rattle.calculus.proofs.Tests.{both, within-bounds}
+use Rattle.calculus.specs.declared.request.Request.the-variants.{Node, Route, Open, Step, Send, Close, Show}
 use Rattle.forms.specs.declared.read.Parsed.{Parsed}
 use Rattle.forms.specs.declared.read.Parsed.the-variants.{Asks, Refused}
 use Rattle.forms.specs.declared.read.Reading.{Reading}
 use Rattle.forms.specs.Text.{Form, node, route, «open», step, send, close, show}
 use Rattle.forms.specs.Request.{isSession, isItem, isTag, rising, reading, asked}
+use Rattle.model.specs.Turn.{sessionOf}
 use Rattle.model.proofs.Checks.{either}
-use Rattle.simulator.specs.Range.{InRange}
-
--- what is asked, if anything, is in range
-abbrev pub Ranged : Parsed → Type 0
-Ranged (Asks q) = InRange q
-Ranged (Refused r) = Unit
+use Rattle.simulator.specs.Range.{IsSession, Ranged}
 
 first-bounds : (low high n : ℕ) (b : Bool) → (within low high n && b) ≡ true → (low ≤ n) × (n ≤ high)
 first-bounds low high n b e = within-bounds low high n (both (within low high n) b e .0)
@@ -37,3 +35,17 @@ form-ranged show = tt
 pub asked-ranged : (o : Option Form) → Ranged (asked o .parsed)
 asked-ranged none = tt
 asked-ranged (some f) = form-ranged f
+
+session-numbered : (p : Parsed) → Ranged p → IsSession (sessionOf p)
+session-numbered (Asks (Node a k)) h = omega arith
+session-numbered (Asks (Route a b n)) h = omega arith
+session-numbered (Asks (Open u c d)) h = h
+session-numbered (Asks (Step u k)) h = h
+session-numbered (Asks (Send u w t)) h = h
+session-numbered (Asks (Close u)) h = h
+session-numbered (Asks Show) h = omega arith
+session-numbered (Refused r) h = omega arith
+
+-- so is the number of the session whose part it is about
+pub asked-numbered : (o : Option Form) → (1 ≤ sessionOf (asked o .parsed)) × (sessionOf (asked o .parsed) ≤ 8)
+asked-numbered o = session-numbered (asked o .parsed) (asked-ranged o)

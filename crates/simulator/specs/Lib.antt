@@ -1,5 +1,5 @@
--- What the contracts of `simulator` cite: `Reply` those of the public functions, the others those of private ones.
+-- What the contracts of `simulator` cite: `Reply` and `Batch` those of the public functions, the others those of private ones.
 pub mod Reply
 pub mod Lines
 pub mod Range
-pub mod Turn
+pub mod Batch

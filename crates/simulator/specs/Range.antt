@@ -2,6 +2,8 @@
 use Prim.Native.Nat.{ℕ, _≤_}
 use Rattle.calculus.specs.declared.request.Request as request
 use Rattle.calculus.specs.declared.request.Request.the-variants.{Node, Route, Open, Step, Send, Close, Show}
+use Rattle.forms.specs.declared.read.Parsed.{Parsed}
+use Rattle.forms.specs.declared.read.Parsed.the-variants.{Asks, Refused}
 
 -- a is a node's number
 abbrev pub IsNode : ℕ → Type 0
@@ -20,3 +22,8 @@ InRange (Step u k) = IsSession (u .0)
 InRange (Send u w tag) = IsSession (u .0)
 InRange (Close u) = IsSession (u .0)
 InRange Show = Unit
+
+-- what is asked, if anything, is in range
+abbrev pub Ranged : Parsed → Type 0
+Ranged (Asks q) = InRange q
+Ranged (Refused r) = Unit

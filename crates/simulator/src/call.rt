@@ -1,35 +1,27 @@
 // A fresh state, and one call: a line and a lent output.
-use crate::show::put_answer;
-use crate::show::put_shown;
-use crate::turn::close_session;
-use crate::turn::node;
-use crate::turn::open_session;
-use crate::turn::refused;
-use crate::turn::route;
-use crate::turn::send_data;
-use crate::turn::step_item;
+use crate::part::load;
+use crate::part::store;
+use crate::show::put_answers;
+use crate::turn::is_ok;
+use crate::turn::network_of;
+use crate::turn::session_of;
+use crate::turn::turn;
 use calculus::answer::Answer;
 use calculus::answer::Refusal;
 use calculus::network::Network;
-use calculus::request::Request;
 use calculus::session::Session;
 use calculus::session::Stage;
 use calculus::state::State;
-use calculus::state::Turn;
-use forms::read::Parsed;
 use forms::read::read;
+use lookups::blank::blank_row;
+use lookups::blank::blank_slot;
 use lookups::network::no_node;
-use sessions::blank::blank_row;
-use sessions::blank::blank_slot;
 ghost use mathlib.Core.Path.{_≡_};
-ghost use mathlib.Core.Option.{none};
-ghost use Prim.Native.Nat.{_≤_};
+ghost use mathlib.Core.Bool.{_||_};
 ghost use lib.ListN.{length};
 ghost use Rattle.model.specs.Calls as calls;
-ghost use Rattle.model.specs.Requests.{shown};
 ghost use Rattle.model.specs.State as spec;
 ghost use Rattle.simulator.specs.Reply.{statusOf, Replies};
-ghost use Rattle.simulator.specs.Range.{InRange};
 
 // Whether the call was answered or refused.
 pub enum Status {
@@ -96,76 +88,14 @@ fn status_of(answer: Answer) -> Status
     }
 }
 
-// A turn's one answer, written.
-fn one_answer(t: Turn, out: &mut [u8]) -> Reply
-    requires { ⌜ 65536 ≤ length (now out) ⌝ }
-    ensures { λ r. ⌜ Replies (now (out .entry)) (calls.oneAnswer t) (now (out .exit)) r ⌝ }
+// Whether an open was accepted, now or before.
+pub fn is_opened(opens: bool, opened: bool) -> bool
+    ensures { λ r. ⌜ r ≡ (opens || opened) ⌝ }
 {
-    let state = t.state;
-    let answer = t.answer;
-    let status = status_of(answer);
-    let written = put_answer(out, 0, answer);
-    Reply {
-        state,
-        written,
-        status,
+    if opens {
+        return true;
     }
-}
-
-// The lines of show, written.
-fn show(s: State, out: &mut [u8]) -> Reply
-    requires { ⌜ 65536 ≤ length (now out) ⌝ }
-    ensures { λ r. ⌜ Replies (now (out .entry)) (record { state = s; answers = shown (s .users); refusal = none }) (now (out .exit)) r ⌝ }
-{
-    let users = s.users;
-    let written = put_shown(out, users);
-    Reply {
-        state: s,
-        written,
-        status: Status::Answered,
-    }
-}
-
-// A request with its credentials, if it is a node's.
-fn requested(s: State, has: [bool; 64], needs: [bool; 64], q: Request, out: &mut [u8]) -> Reply
-    requires { ⌜ InRange q × (65536 ≤ length (now out)) ⌝ }
-    ensures { λ r. ⌜ Replies (now (out .entry)) (calls.requested s has needs q) (now (out .exit)) r ⌝ }
-{
-    match q {
-        Request::Node(a, kind) => {
-            let turn = node(s, a, kind, has, needs);
-            one_answer(turn, out)
-        }
-        Request::Route {
-            at,
-            destination,
-            next,
-        } => {
-            let turn = route(s, at, destination, next);
-            one_answer(turn, out)
-        }
-        Request::Open {
-            session,
-            client,
-            server,
-        } => {
-            let turn = open_session(s, session, client, server);
-            one_answer(turn, out)
-        }
-        Request::Step(session, item) => {
-            let turn = step_item(s, session, item);
-            one_answer(turn, out)
-        }
-        Request::Send(session, sender, tag) => {
-            let turn = send_data(s, session, sender, tag);
-            one_answer(turn, out)
-        }
-        Request::Close(session) => {
-            let turn = close_session(s, session);
-            one_answer(turn, out)
-        }
-        Request::Show => show(s, out),
-    }
+    opened
 }
 
 // Answers `line`, the bytes before its newline, with lines at the front of `out`; the other bytes of `out` stay. Refusal 0
@@ -182,15 +112,28 @@ pub fn call(s: State, line: &[u8], out: &mut [u8]) -> Reply
     }
     let reading = read(line);
     let parsed = reading.parsed;
-    match parsed {
-        Parsed::Asks(q) => {
-            let has = reading.has;
-            let needs = reading.needs;
-            requested(s, has, needs, q, out)
-        }
-        Parsed::Refused(r) => {
-            let turn = refused(s, r);
-            one_answer(turn, out)
-        }
+    let session = session_of(parsed);
+    let before = s.network;
+    let mut users = s.users;
+    let part = load(s, session);
+    let moved = turn(s.opened, before, &mut users, part, parsed);
+    let answer = moved.answer;
+    let left = moved.part;
+    let written = put_answers(out, 0, &users, parsed, answer);
+    let status = status_of(answer);
+    let opened = is_opened(moved.opens, s.opened);
+    let mut state = store(s, session, left);
+    state.opened = opened;
+    state.users = users;
+    if is_ok(answer) {
+        let has = reading.has;
+        let needs = reading.needs;
+        let after = network_of(before, has, needs, parsed);
+        state.network = after;
+    }
+    Reply {
+        state,
+        written,
+        status,
     }
 }

@@ -1,5 +1,6 @@
-// The simulator: a fresh state, and the one entry for a call.
+// The simulator: a fresh state, a call, and the calls of a text.
 pub mod call;
+pub mod calls;
 mod part;
 mod show;
 mod turn;

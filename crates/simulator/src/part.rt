@@ -1,16 +1,17 @@
-// A session's part, taken out of the tables and put back.
+// A session's part, taken out of the tables and put back; and all of them.
 use calculus::number::SessionNumber;
 use calculus::packet::Slot;
 use calculus::session::Row;
 use calculus::state::Part;
 use calculus::state::State;
-use sessions::blank::blank_row;
-use sessions::blank::blank_slot;
+use lookups::blank::blank_row;
+use lookups::blank::blank_slot;
 ghost use mathlib.Core.Path.{_≡_};
 ghost use Prim.Native.Nat.{_*_, _<_};
 ghost use lib.ListN.{take, drop};
 ghost use lib.Seq.{paste};
 ghost use Rattle.model.specs.State as spec;
+ghost use Rattle.model.specs.Turn.{Parts};
 ghost use Rattle.simulator.specs.Range.{IsSession};
 
 // The items of the session whose place is `at`.
@@ -113,4 +114,34 @@ pub fn store(s: State, u: SessionNumber, t: Part) -> State
     next.items = items;
     next.rows = rows;
     next
+}
+
+// The parts of all sessions.
+pub fn unpack(s: State) -> [Part; 8]
+    ensures { λ r. ⌜ Parts s r ⌝ }
+{
+    let first = load(s, SessionNumber(1));
+    let mut parts = [first; 8];
+    let mut i: usize = 1;
+    while i < 8 {
+        let part = load(s, SessionNumber(i as u8 + 1));
+        parts[i] = part;
+        i += 1;
+    }
+    parts
+}
+
+// The state with these parts, and with the tables that all sessions share as in `s`.
+pub fn pack(s: State, parts: [Part; 8]) -> State
+    ensures { λ r. ⌜ Parts r parts ⌝ }
+{
+    let mut left = s;
+    let mut i: usize = 0;
+    while i < 8 {
+        let part = parts[i];
+        let next = store(left, SessionNumber(i as u8 + 1), part);
+        left = next;
+        i += 1;
+    }
+    left
 }

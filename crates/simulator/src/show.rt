@@ -2,6 +2,8 @@
 // line has at most 29 bytes, so 32 of them have 928, and an answer is written where 32 bytes are left.
 use calculus::answer::Answer;
 use calculus::number::Spi;
+use calculus::request::Request;
+use forms::read::Parsed;
 use forms::write::Written;
 use forms::write::write;
 ghost use mathlib.Core.Path.{_≡_};
@@ -10,10 +12,11 @@ ghost use Prim.Native.Nat.{_+_, _≤_};
 ghost use lib.ListN.{length};
 ghost use Rattle.model.specs.Row as row;
 ghost use Rattle.model.specs.Requests as spec;
+ghost use Rattle.model.specs.Turn as turns;
 ghost use Rattle.simulator.specs.Lines.{Puts};
 
 // An answer's line.
-pub fn put_answer(out: &mut [u8], at: usize, answer: Answer) -> usize
+fn put_answer(out: &mut [u8], at: usize, answer: Answer) -> usize
     requires { ⌜ at + 32 ≤ length (now out) ⌝ }
     ensures { λ r. ⌜ Puts 32 (now (out .entry)) at (answer ∷ []) (now (out .exit)) r ⌝ }
 {
@@ -69,11 +72,11 @@ fn put_peers(out: &mut [u8], at: usize, outward: bool, a: u8, users: &[u16]) -> 
 }
 
 // The lines of all nodes' associations: in, then out, each by peer.
-fn put_nodes(out: &mut [u8], users: [u16; 2048]) -> usize
-    requires { ⌜ 65536 ≤ length (now out) ⌝ }
-    ensures { λ r. ⌜ Puts 59392 (now (out .entry)) 0 (spec.nodeLines 32 1 users) (now (out .exit)) r ⌝ }
+fn put_nodes(out: &mut [u8], at: usize, users: &[u16]) -> usize
+    requires { ⌜ (at + 65536 ≤ length (now out)) × (length (now users) ≡ 2048) ⌝ }
+    ensures { λ r. ⌜ Puts 59392 (now (out .entry)) at (spec.nodeLines 32 1 (now (users .entry))) (now (out .exit)) r ⌝ }
 {
-    let mut next: usize = 0;
+    let mut next = at;
     let mut i: usize = 0;
     while i < 32 {
         let a = i as u8 + 1;
@@ -86,10 +89,58 @@ fn put_nodes(out: &mut [u8], users: [u16; 2048]) -> usize
 }
 
 // One line for each standing association, then `(end)`.
-pub fn put_shown(out: &mut [u8], users: [u16; 2048]) -> usize
-    requires { ⌜ 65536 ≤ length (now out) ⌝ }
-    ensures { λ r. ⌜ Puts 65536 (now (out .entry)) 0 (spec.shown users) (now (out .exit)) r ⌝ }
+fn put_shown(out: &mut [u8], at: usize, users: &[u16; 2048]) -> usize
+    requires { ⌜ at + 65536 ≤ length (now out) ⌝ }
+    ensures { λ r. ⌜ Puts 65536 (now (out .entry)) at (spec.shown (now (users .entry))) (now (out .exit)) r ⌝ }
 {
-    let next = put_nodes(out, users);
+    let next = put_nodes(out, at, users);
     put_answer(out, next, Answer::End)
+}
+
+fn is_show_request(q: Request) -> bool
+    ensures { λ r. ⌜ r ≡ turns.isShowRequest q ⌝ }
+{
+    match q {
+        Request::Node(_, _) => false,
+        Request::Route {
+            at: _,
+            destination: _,
+            next: _,
+        } => false,
+        Request::Open {
+            session: _,
+            client: _,
+            server: _,
+        } => false,
+        Request::Step(_, _) => false,
+        Request::Send(_, _, _) => false,
+        Request::Close(_) => false,
+        Request::Show => true,
+    }
+}
+
+fn is_show(p: Parsed) -> bool
+    ensures { λ r. ⌜ r ≡ turns.isShow p ⌝ }
+{
+    match p {
+        Parsed::Asks(q) => is_show_request(q),
+        Parsed::Refused(_) => false,
+    }
+}
+
+// The lines that answer what was read: show's, or the one of `answer`.
+pub fn put_answers(
+    out: &mut [u8],
+    at: usize,
+    users: &[u16; 2048],
+    p: Parsed,
+    answer: Answer,
+) -> usize
+    requires { ⌜ at + 65536 ≤ length (now out) ⌝ }
+    ensures { λ r. ⌜ Puts 65536 (now (out .entry)) at (turns.answersOf (now (users .entry)) p answer) (now (out .exit)) r ⌝ }
+{
+    if is_show(p) {
+        return put_shown(out, at, users);
+    }
+    put_answer(out, at, answer)
 }

@@ -1,55 +1,31 @@
-// What each request but show answers and leaves.
-use crate::part::load;
-use crate::part::store;
+// What a line does, told by the part of the session that it names and by the tables that all sessions share.
 use calculus::answer::Answer;
 use calculus::answer::Refusal;
 use calculus::network::Kind;
 use calculus::network::Network;
 use calculus::network::NextHop;
 use calculus::network::Node;
-use calculus::number::ItemNumber;
 use calculus::number::SessionNumber;
-use calculus::request::Sender;
-use calculus::state::State;
-use calculus::state::Turn;
+use calculus::request::Request;
+use calculus::state::Moved;
+use calculus::state::Part;
+use forms::read::Parsed;
 use lookups::network::given;
 use lookups::network::next_hop;
-use sessions::requests::Moved;
 use sessions::requests::close;
 use sessions::requests::open;
 use sessions::requests::send;
 use sessions::requests::step;
 ghost use mathlib.Core.Path.{_≡_};
-ghost use mathlib.Core.Bool.{false, not, _&&_, _||_};
+ghost use mathlib.Core.Bool.{not, _&&_, _||_};
 ghost use lib.Dec.{eqb};
+ghost use Rattle.calculus.specs.declared.answer.Answer.the-variants.{Ok, No};
 ghost use Rattle.model.specs.Network as network;
-ghost use Rattle.model.specs.Row.{stands};
 ghost use Rattle.model.specs.Requests as spec;
-ghost use Rattle.simulator.specs.Range.{IsNode, IsSession};
-ghost use Rattle.simulator.specs.Turn.{turnOf};
-
-// A refused call changes no state.
-pub fn refused(s: State, r: Refusal) -> Turn
-    ensures { λ x. ⌜ x ≡ spec.refused s r ⌝ }
-{
-    Turn {
-        state: s,
-        answer: Answer::No(r),
-    }
-}
+ghost use Rattle.model.specs.Turn as turns;
+ghost use Rattle.simulator.specs.Range.{IsNode, InRange, Ranged};
 
 // ---- node and route
-
-fn accepted(s: State, n: Network) -> Turn
-    ensures { λ r. ⌜ r ≡ spec.accepted s n ⌝ }
-{
-    let mut next = s;
-    next.network = n;
-    Turn {
-        state: next,
-        answer: Answer::Ok,
-    }
-}
 
 fn with_node(n: Network, a: u8, kind: Kind, has: [bool; 64], needs: [bool; 64]) -> Network
     requires { ⌜ IsNode a ⌝ }
@@ -77,20 +53,51 @@ fn with_route(n: Network, a: u8, b: u8, hop: u8) -> Network
     next
 }
 
-// node a: refusals 5, 3.
-pub fn node(s: State, a: u8, kind: Kind, has: [bool; 64], needs: [bool; 64]) -> Turn
-    requires { ⌜ IsNode a ⌝ }
-    ensures { λ r. ⌜ r ≡ spec.nodeTurn s a kind has needs ⌝ }
+// The network once an accepted node or route call has given its part.
+fn network_with(n: Network, has: [bool; 64], needs: [bool; 64], q: Request) -> Network
+    requires { ⌜ InRange q ⌝ }
+    ensures { λ r. ⌜ r ≡ turns.networkWith n has needs q ⌝ }
 {
-    let n = s.network;
-    if s.opened {
-        return refused(s, Refusal::Late);
+    match q {
+        Request::Node(a, kind) => with_node(n, a, kind, has, needs),
+        Request::Route {
+            at,
+            destination,
+            next,
+        } => with_route(n, at, destination, next),
+        Request::Open {
+            session: _,
+            client: _,
+            server: _,
+        } => n,
+        Request::Step(_, _) => n,
+        Request::Send(_, _, _) => n,
+        Request::Close(_) => n,
+        Request::Show => n,
+    }
+}
+
+pub fn network_of(n: Network, has: [bool; 64], needs: [bool; 64], p: Parsed) -> Network
+    requires { ⌜ Ranged p ⌝ }
+    ensures { λ r. ⌜ r ≡ turns.networkOf n has needs p ⌝ }
+{
+    match p {
+        Parsed::Asks(q) => network_with(n, has, needs, q),
+        Parsed::Refused(_) => n,
+    }
+}
+
+// node a: refusals 5, 3.
+fn node_answer(opened: bool, n: Network, a: u8) -> Answer
+    ensures { λ r. ⌜ r ≡ spec.checked No (spec.nodeChecks opened n a) Ok ⌝ }
+{
+    if opened {
+        return Answer::No(Refusal::Late);
     }
     if given(n, a) {
-        return refused(s, Refusal::Double);
+        return Answer::No(Refusal::Double);
     }
-    let next = with_node(n, a, kind, has, needs);
-    accepted(s, next)
+    Answer::Ok
 }
 
 fn is_route_unknown(n: Network, a: u8, b: u8, hop: u8) -> bool
@@ -124,100 +131,128 @@ fn has_route(n: Network, a: u8, b: u8) -> bool
 }
 
 // route a b hop: refusals 5, 4, 8, 3.
-pub fn route(s: State, a: u8, b: u8, hop: u8) -> Turn
-    requires { ⌜ IsNode a × IsNode b ⌝ }
-    ensures { λ r. ⌜ r ≡ spec.routeTurn s a b hop ⌝ }
+fn route_answer(opened: bool, n: Network, a: u8, b: u8, hop: u8) -> Answer
+    ensures { λ r. ⌜ r ≡ spec.checked No (spec.routeChecks opened n a b hop) Ok ⌝ }
 {
-    let n = s.network;
-    if s.opened {
-        return refused(s, Refusal::Late);
+    if opened {
+        return Answer::No(Refusal::Late);
     }
     if is_route_unknown(n, a, b, hop) {
-        return refused(s, Refusal::Unknown);
+        return Answer::No(Refusal::Unknown);
     }
     if is_same(a, b, hop) {
-        return refused(s, Refusal::Same);
+        return Answer::No(Refusal::Same);
     }
     if has_route(n, a, b) {
-        return refused(s, Refusal::Double);
+        return Answer::No(Refusal::Double);
     }
-    let next = with_route(n, a, b, hop);
-    accepted(s, next)
+    Answer::Ok
 }
 
-// ---- a session's requests
-
-// Whether an open was accepted, now or before.
-fn is_opened(opens: bool, opened: bool) -> bool
-    ensures { λ r. ⌜ r ≡ (opens || opened) ⌝ }
+// Whether the answer is `(ok)`, which an accepted node or route call gets, and no other.
+pub fn is_ok(answer: Answer) -> bool
+    ensures { λ r. ⌜ r ≡ turns.isOk answer ⌝ }
 {
-    if opens {
-        return true;
+    match answer {
+        Answer::Ok => true,
+        Answer::Made(_) => false,
+        Answer::MadeTwo(_, _) => false,
+        Answer::Lost(_) => false,
+        Answer::Denied => false,
+        Answer::Opened => false,
+        Answer::Delivered(_) => false,
+        Answer::Closed => false,
+        Answer::No(_) => false,
+        Answer::Assoc {
+            node: _,
+            out: _,
+            peer: _,
+            spi: _,
+            users: _,
+        } => false,
+        Answer::End => false,
     }
-    opened
 }
 
-// The state with what a move of session u leaves; as it was where the move is not accepted.
-fn performed(s: State, u: SessionNumber, m: Moved) -> Turn
-    requires { ⌜ IsSession (u .0) ⌝ }
-    ensures { λ r. ⌜ r ≡ turnOf s (u .0) m ⌝ }
+// ---- a line
+
+fn session_in(q: Request) -> SessionNumber
+    ensures { λ r. ⌜ r ≡ record { 0 = turns.sessionIn q } ⌝ }
 {
-    let answer = m.answer;
-    if m.accepted {
-        let part = m.part;
-        let users = m.users;
-        let opened = is_opened(m.opens, s.opened);
-        let mut next = s;
-        next.opened = opened;
-        next.users = users;
-        let state = store(next, u, part);
-        return Turn { state, answer };
+    match q {
+        Request::Node(_, _) => SessionNumber(1),
+        Request::Route {
+            at: _,
+            destination: _,
+            next: _,
+        } => SessionNumber(1),
+        Request::Open {
+            session,
+            client: _,
+            server: _,
+        } => session,
+        Request::Step(session, _) => session,
+        Request::Send(session, _, _) => session,
+        Request::Close(session) => session,
+        Request::Show => SessionNumber(1),
     }
-    Turn { state: s, answer }
 }
 
-// open u c d
-pub fn open_session(s: State, u: SessionNumber, c: u8, d: u8) -> Turn
-    requires { ⌜ IsSession (u .0) ⌝ }
-    ensures { λ r. ⌜ r ≡ spec.inSession s (u .0) (spec.openMove (s .network) c d) ⌝ }
+// The session whose part a line is about; any session's serves where it names none.
+pub fn session_of(p: Parsed) -> SessionNumber
+    ensures { λ r. ⌜ r ≡ record { 0 = turns.sessionOf p } ⌝ }
 {
-    let n = s.network;
-    let users = s.users;
-    let part = load(s, u);
-    let left = open(n, users, part, c, d);
-    performed(s, u, left)
+    match p {
+        Parsed::Asks(q) => session_in(q),
+        Parsed::Refused(_) => SessionNumber(1),
+    }
 }
 
-// step u k
-pub fn step_item(s: State, u: SessionNumber, k: ItemNumber) -> Turn
-    requires { ⌜ IsSession (u .0) ⌝ }
-    ensures { λ r. ⌜ r ≡ spec.inSession s (u .0) (spec.stepMove (s .network) (stands (s .users) false) (k .0)) ⌝ }
+fn staying(t: Part, answer: Answer) -> Moved
+    ensures { λ r. ⌜ r ≡ turns.staying t answer ⌝ }
 {
-    let n = s.network;
-    let users = s.users;
-    let part = load(s, u);
-    let left = step(n, users, part, k);
-    performed(s, u, left)
+    Moved {
+        opens: false,
+        answer,
+        part: t,
+    }
 }
 
-// send u w tag
-pub fn send_data(s: State, u: SessionNumber, w: Sender, tag: u32) -> Turn
-    requires { ⌜ IsSession (u .0) ⌝ }
-    ensures { λ r. ⌜ r ≡ spec.inSession s (u .0) (spec.sendMove w tag) ⌝ }
+// What a request does to the part `t` and to the users, and its answer.
+fn requested(opened: bool, n: Network, users: &mut [u16; 2048], t: Part, q: Request) -> Moved
+    ensures { λ r. ⌜ (r ≡ turns.requestedOf opened n (now (users .entry)) t q) × (now (users .exit) ≡ turns.usersWith n (now (users .entry)) t q) ⌝ }
 {
-    let users = s.users;
-    let part = load(s, u);
-    let left = send(users, part, w, tag);
-    performed(s, u, left)
+    match q {
+        Request::Node(a, _) => {
+            let answer = node_answer(opened, n, a);
+            staying(t, answer)
+        }
+        Request::Route {
+            at,
+            destination,
+            next,
+        } => {
+            let answer = route_answer(opened, n, at, destination, next);
+            staying(t, answer)
+        }
+        Request::Open {
+            session: _,
+            client,
+            server,
+        } => open(n, t, client, server),
+        Request::Step(_, item) => step(n, users, t, item),
+        Request::Send(_, sender, tag) => send(t, sender, tag),
+        Request::Close(_) => close(users, t),
+        Request::Show => staying(t, Answer::End),
+    }
 }
 
-// close u
-pub fn close_session(s: State, u: SessionNumber) -> Turn
-    requires { ⌜ IsSession (u .0) ⌝ }
-    ensures { λ r. ⌜ r ≡ spec.inSession s (u .0) spec.closeMove ⌝ }
+// What a line does to the part `t` of its session and to the users, and its answer.
+pub fn turn(opened: bool, n: Network, users: &mut [u16; 2048], t: Part, p: Parsed) -> Moved
+    ensures { λ r. ⌜ (r ≡ turns.turnOf opened n (now (users .entry)) t p) × (now (users .exit) ≡ turns.usersOf n (now (users .entry)) t p) ⌝ }
 {
-    let users = s.users;
-    let part = load(s, u);
-    let left = close(users, part);
-    performed(s, u, left)
+    match p {
+        Parsed::Asks(q) => requested(opened, n, users, t, q),
+        Parsed::Refused(r) => staying(t, Answer::No(r)),
+    }
 }

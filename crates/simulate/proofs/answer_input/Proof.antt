@@ -9,7 +9,7 @@ use Rattle.simulate.proofs.answer_input.Tie as tie
 sub-from : tie.Need-sub-from
 sub-from c =
     let start = c .before .before .before .before .before .before .before .before in
-    omega (arith, c .before .before .before .answer-lines .ensures, length-take-le (start .args .filled) (start .args .input .now) (start .pre .0))
+    omega (arith, c .before .before .before .answer-lines .ensures, length-take-le (start .args .filled) (start .args .input .now) (start .pre))
 
 pub answer-input-spec : {M : Type 1} → statement M
 answer-input-spec =
@@ -19,7 +19,6 @@ answer-input-spec =
     (λ c. sym (length-take-le _ _ (omega arith)))
     (λ c κs. search needs)
     sub-from
-    (λ c κs. search needs)
     (λ c κs. search needs)
     (λ c. search needs)
     (λ c. search needs)

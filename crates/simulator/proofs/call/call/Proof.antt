@@ -1,11 +1,20 @@
 -- `call::call` meets its contract: a short output is refused, and what a line asks is in range. Assumes nothing.
-use mathlib.Core.Path.{refl}
-use native.Mathlib.Omega.{arith}
+use mathlib.Core.Path.{_≡_, refl}
+use mathlib.Core.Bool.{cond}
+use Prim.Native.Nat.{_≤_}
+use lib.ListN.{length}
 use borrow.Author.Needs.{needs}
-use borrow.Author.Tests.{lt-ltb, le-ltb}
-use Rattle.model.specs.Calls.{answered}
+use borrow.Author.Tests.{lt-ltb}
+use Rattle.calculus.specs.declared.network.Network.{Network}
+use Rattle.calculus.proofs.Tests.{join}
 use Rattle.forms.specs.Read.{read}
-use Rattle.simulator.proofs.Range.{asked-ranged}
+use Rattle.model.specs.Calls.{answered}
+use Rattle.model.specs.State.{store}
+use Rattle.model.specs.Turn.{isOk, networkOf}
+use Rattle.simulator.specs.Range.{Ranged}
+use Rattle.simulator.specs.Reply.{Replies}
+use Rattle.simulator.proofs.Range.{asked-ranged, asked-numbered}
+use Rattle.simulator.proofs.Replied.{replied}
 use Rattle.simulator.proofs.call.call.Statement.{statement}
 use Rattle.simulator.proofs.call.call.Tie as tie
 
@@ -13,27 +22,59 @@ returns : tie.Need-returns
 unfolding answered
 returns c = rw (lt-ltb _ _ (c .if1 .taken)) (record { reply = refl; output = refl })
 
-requested-requires : tie.Need-requested-requires
-requested-requires c κs =
-    let c₄ = c .before .before .before .before in
-    let c₁₀ = c₄ .before .before .before .before .before .before in
-    (rw (← c₄ .before .before .read .ensures, c₄ .parsed .given .1) at (asked-ranged (read (c₁₀ .args .line .now))), omega arith)
+-- what the line asks is in range
+ranged : (c : tie.After-read) → Ranged (c .read .result .parsed)
+ranged c = rw (c .read .ensures) (asked-ranged (read (c .before .before .before .before .args .line .now)))
+
+-- the session that the line names
+numbered : (c : tie.After-session-of) → (1 ≤ c .session-of .result .0) × (c .session-of .result .0 ≤ 8)
+numbered c = rw (c .session-of .ensures, c .before .read .ensures) (asked-numbered (read (c .before .before .before .before .before .args .line .now)))
+
+-- the reply, where the network is n
+reply : (c : tie.After-store) (n : Network)
+    → let c₅ = c .before .before .before .before .before in
+    let c₉ = c₅ .before .before .before .before in
+    let c₁₅ = c₉ .before .before .before .before .before .before in
+    let x = c₁₅ .before .before .before .before .args in
+    let r = c₁₅ .read .result in
+    n ≡ cond (isOk (c₉ .turn .result .answer)) (networkOf (x .s .network) (r .has) (r .needs) (r .parsed)) (x .s .network)
+    → Replies (x .out .now) (answered (x .s) (x .line .now) (length (x .out .now))) (c₅ .put-answers .last .0)
+    (record {
+      state =
+          record {
+            opened = c .before .is-opened .result;
+            network = n;
+            sessions = c .store .result .sessions;
+            items = c .store .result .items;
+            rows = c .store .result .rows;
+            users = c₉ .turn .last .1 .1 .0;
+          };
+      written = c₅ .put-answers .result;
+      status = c .before .before .status-of .result;
+    })
+reply c n e =
+    let c₂ = c .before .before in
+    let c₅ = c₂ .before .before .before in
+    let c₉ = c₅ .before .before .before .before in
+    let c₁₁ = c₉ .before .before in
+    let c₁₄ = c₁₁ .before .before .before in
+    let c₁₅ = c₁₄ .before in
+    let x = c₁₅ .before .before .before .before .args in
+    replied (x .s) (x .line .now) (c₁₅ .read .result) (c₁₅ .read .ensures) (c₁₄ .session-of .result .0) (rw (c₁₄ .session-of .ensures))
+    (c₉ .turn .result) (c₉ .turn .last .1 .1 .0) (rw (← c₁₁ .load .ensures) (c₉ .turn .ensures .0)) (rw (← c₁₁ .load .ensures) (c₉ .turn .ensures .1))
+    (c₁₅ .before .if1 .left) (c₅ .put-answers .ensures) (c .store .result) (c .store .ensures) (c .before .is-opened .result)
+    (c .before .is-opened .ensures) n e (c₂ .status-of .result) (c₂ .status-of .ensures)
 
 returns-2 : tie.Need-returns-2
-unfolding answered
 returns-2 c =
-    let c₇ = c .before .before .before .before .before .before .before in
-    let c₁₀ = c₇ .before .before .before in
-    rw (le-ltb _ _ (c₁₀ .if1 .left), ← c₇ .before .before .read .ensures, c₇ .parsed .given .1) (c .before .before .requested .ensures)
+    let c₃ = c .before .before .before in
+    reply (c₃ .before .before) (c .network-of .result) (rw (join (c₃ .before .is-ok .ensures) (c₃ .if2 .taken)) (c .network-of .ensures))
 
 returns-3 : tie.Need-returns-3
-unfolding answered
+unfolding store
 returns-3 c =
-    let c₄ = c .before .before .before .before in
-    let c₆ = c₄ .before .before in
-    let c₉ = c₆ .before .before .before in
-    rw (le-ltb _ _ (c₉ .if1 .left), ← c₆ .before .before .read .ensures, c₆ .parsed2 .given .1)
-    (rw (c₄ .refused .ensures) at (c .before .before .one-answer .ensures))
+    let c₂ = c .before .before in
+    reply c₂ (c₂ .store .result .network) (rw (join (c .before .is-ok .ensures) (c .if2 .left), c₂ .store .ensures))
 
 pub call-spec : {M : Type 1} → statement M
 call-spec =
@@ -41,11 +82,15 @@ call-spec =
     (tie.spec
     returns
     (λ c κs. search needs)
-    (λ c. search needs)
-    requested-requires
-    (λ c. search needs)
+    (λ c κs. search needs)
+    (λ c κs. numbered (c .before .before))
     (λ c κs. search needs)
     (λ c κs. search needs)
+    (λ c κs. search needs)
+    (λ c κs. search needs)
+    (λ c κs. numbered (c .before .before .before .before .before .before .before .before .before .before .before .before .before))
+    (λ c κs. search needs)
+    (λ c κs. ranged (c .before .before .before .before .before .before .before .before .before .before .before .before .before .before .before .before .before .before .before))
     (λ c. search needs)
     returns-2
     (λ c. search needs)

@@ -12,34 +12,34 @@ use Rattle.simulator.proofs.show.put_nodes.Statement.{statement}
 use Rattle.simulator.proofs.show.put_nodes.Tie as tie
 
 abbrev Inv-loop : tie.InvT-loop
-Inv-loop out₀ users next₀ i₀ out next i = (i ≤ 32) × Puts (1856 * i) out₀ 0 (nodeLines i 1 users) out next
+Inv-loop out₀ at users next₀ i₀ out next i = (i ≤ 32) × Puts (1856 * i) out₀ at (nodeLines i 1 users) out next
 
 abbrev μ-loop : tie.MeasureT-loop
-μ-loop out₀ users next₀ i₀ out next i = 32 - i
+μ-loop out₀ at users next₀ i₀ out next i = 32 - i
 
 loop-holds : tie.Need-loop-holds Inv-loop μ-loop
 unfolding nodeLines
 loop-holds c = (omega arith, puts-none)
 
 put-peers-requires : tie.Need-put-peers-requires Inv-loop μ-loop
-put-peers-requires c κs = (search needs, search needs, omega (arith, puts-size (c .before .before .before .before .loop .inv .1)))
+put-peers-requires c κs = (search needs, search needs, omega (arith, puts-size (c .before .before .before .loop .inv .1)))
 
 put-peers-requires-2 : tie.Need-put-peers-requires-2 Inv-loop μ-loop
 put-peers-requires-2 c κs =
-    let c₅ = c .before .before .before .before .before in
-    let c₁₀ = c₅ .before .before .before .before .before in
-    (search needs, search needs, omega (arith, puts-size (c₁₀ .loop .inv .1), puts-size (c₅ .put-peers .ensures)))
+    let c₄ = c .before .before .before .before in
+    let c₈ = c₄ .before .before .before .before in
+    (search needs, search needs, omega (arith, puts-size (c₈ .loop .inv .1), puts-size (c₄ .put-peers .ensures)))
 
 loop-again : tie.Need-loop-again Inv-loop μ-loop
 loop-again c =
-    let c₈ = c .before .before .before .before .before .before .before .before in
-    let c₁₃ = c₈ .before .before .before .before .before in
-    let i = c₁₃ .loop .i in
+    let c₇ = c .before .before .before .before .before .before .before in
+    let c₁₁ = c₇ .before .before .before .before in
+    let i = c₁₁ .loop .i in
     let e : 64 * i + 32 - 64 * i ≡ 32 = omega arith in
     let f : 64 * i + 64 - (64 * i + 32) ≡ 32 = omega arith in
-    let x = rw e at (c₈ .put-peers .ensures) in
+    let x = rw e at (c₇ .put-peers .ensures) in
     let y = rw f at (c .before .before .put-peers2 .ensures) in
-    (omega arith, rw (add-one, nodes-next _ 1 _) (puts-append (c₁₃ .loop .inv .1) (puts-append {most = 1856} x y (omega arith)) (omega arith)))
+    (omega arith, rw (add-one, nodes-next _ 1 _) (puts-append (c₁₁ .loop .inv .1) (puts-append {most = 1856} x y (omega arith)) (omega arith)))
 
 same-length : tie.Need-same-length Inv-loop μ-loop
 same-length c = puts-size (c .before .loop .inv .1)
