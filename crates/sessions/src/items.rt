@@ -15,6 +15,7 @@ ghost use Rattle.model.specs.Lists as lists;
 ghost use Rattle.model.specs.Item as spec;
 ghost use Rattle.model.specs.Packet as packet;
 ghost use Rattle.model.specs.State as state;
+ghost use Rattle.sessions.specs.Wanted.{isWanted};
 
 fn is_free(i: Item) -> bool
     ensures { λ r. ⌜ r ≡ spec.isFree i ⌝ }
@@ -180,31 +181,33 @@ fn count_one(n: usize, s: Slot) -> usize
     n
 }
 
-// ---- sixteen places
-
-// The place of the item with the number `k`, or 16.
-pub fn find_numbered(items: [Slot; 16], k: u32) -> usize
-    ensures { λ r. ⌜ r ≡ lists.place (state.isNumbered k) items ⌝ }
-{
-    let mut i: usize = 0;
-    while i < 16 {
-        let slot = items[i];
-        if is_numbered(k, slot) {
-            return i;
-        }
-        i += 1;
-    }
-    i
+// What is looked for among a session's places: a free one, that of an item's number, that of a wait.
+pub enum Wanted {
+    Vacancy,
+    Number(u32),
+    That(Wait),
 }
 
-// The place of the wait `w`, or 16.
-fn find_wait(items: [Slot; 16], w: Wait) -> usize
-    ensures { λ r. ⌜ r ≡ lists.place (λ s. spec.isThatWait w (s .item)) items ⌝ }
+fn is_wanted(w: Wanted, s: Slot) -> bool
+    ensures { λ r. ⌜ r ≡ isWanted w s ⌝ }
+{
+    match w {
+        Wanted::Vacancy => is_vacant(s),
+        Wanted::Number(k) => is_numbered(k, s),
+        Wanted::That(wait) => holds_wait(wait, s),
+    }
+}
+
+// ---- sixteen places
+
+// The first place that is wanted, or 16.
+pub fn find(items: [Slot; 16], w: Wanted) -> usize
+    ensures { λ r. ⌜ r ≡ lists.place (isWanted w) items ⌝ }
 {
     let mut i: usize = 0;
     while i < 16 {
         let slot = items[i];
-        if holds_wait(w, slot) {
+        if is_wanted(w, slot) {
             return i;
         }
         i += 1;
@@ -242,7 +245,7 @@ pub fn use_up(items: [Slot; 16], w: Wait) -> [Slot; 16]
     ensures { λ r. ⌜ r ≡ state.useUp items w ⌝ }
 {
     if is_some_wait(w) {
-        let at = find_wait(items, w);
+        let at = find(items, Wanted::That(w));
         let blank = blank_slot();
         return set_slot(items, at, blank);
     }
@@ -253,18 +256,13 @@ pub fn use_up(items: [Slot; 16], w: Wait) -> [Slot; 16]
 pub fn put_item(items: [Slot; 16], n: u32, i: Item) -> [Slot; 16]
     ensures { λ r. ⌜ r ≡ state.putItem items n i ⌝ }
 {
-    let mut next = items;
-    let mut at: usize = 0;
-    while at < 16 {
-        let slot = next[at];
-        if is_vacant(slot) {
-            next[at] = Slot {
-                number: ItemNumber(n),
-                item: i,
-            };
-            return next;
-        }
-        at += 1;
-    }
-    next
+    let at = find(items, Wanted::Vacancy);
+    set_slot(
+        items,
+        at,
+        Slot {
+            number: ItemNumber(n),
+            item: i,
+        },
+    )
 }

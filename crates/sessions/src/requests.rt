@@ -3,8 +3,9 @@
 use crate::effect::answer_of;
 use crate::effect::applied;
 use crate::effect::users_after;
+use crate::items::Wanted;
 use crate::items::count_data;
-use crate::items::find_numbered;
+use crate::items::find;
 use crate::items::is_wait;
 use crate::items::put_item;
 use calculus::answer::Answer;
@@ -195,7 +196,7 @@ pub fn step(n: Network, users: &mut [u16; 2048], t: Part, k: ItemNumber) -> Move
     ensures { λ r. ⌜ Moves (now (users .entry)) t (spec.stepMove n (stands (now (users .entry)) false) (k .0) t) (now (users .exit)) r ⌝ }
 {
     let items = t.items;
-    let at = find_numbered(items, k.0);
+    let at = find(items, Wanted::Number(k.0));
     step_at(n, users, t, at)
 }
 

@@ -17,7 +17,7 @@ use Rattle.sessions.proofs.items.use_up.Tie as tie
 
 returns : tie.Need-returns
 unfolding useUp
-returns c = simp (c .set-slot .ensures, c .before .blank-slot .ensures, c .before .before .find-wait .ensures)
+returns c = simp (c .set-slot .ensures, c .before .blank-slot .ensures, c .before .before .find .ensures)
 
 -- no wait is found nowhere
 none : (l : List Slot) (w : Wait) → isSomeWait w ≡ false → l ≡ useUp l w
