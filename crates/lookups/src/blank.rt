@@ -3,6 +3,9 @@ use calculus::number::ItemNumber;
 use calculus::packet::Item;
 use calculus::packet::Slot;
 use calculus::session::Row;
+use calculus::session::Session;
+use calculus::session::Stage;
+use calculus::state::Part;
 ghost use mathlib.Core.Path.{_≡_};
 ghost use Rattle.model.specs.State as spec;
 
@@ -25,5 +28,25 @@ pub fn blank_row() -> Row
         destination: 0,
         peer: 0,
         establishment: 0,
+    }
+}
+
+// The part of a session that was never open.
+pub fn blank_part() -> Part
+    ensures { λ r. ⌜ r ≡ spec.blankPart ⌝ }
+{
+    let slot = blank_slot();
+    let row = blank_row();
+    Part {
+        session: Session {
+            stage: Stage::Unused,
+            client: 0,
+            server: 0,
+            begun: 0,
+            rows: 0,
+            last: 0,
+        },
+        items: [slot; 16],
+        rows: [row; 32],
     }
 }

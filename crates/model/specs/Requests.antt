@@ -3,7 +3,7 @@ use Prim.Native.Nat.{ℕ, zero, suc, _+_, _-_}
 use mathlib.Core.Bool.{Bool, true, false, cond, not, _&&_, _||_}
 use mathlib.Core.List.{List, [], _∷_, _++_}
 use lib.Dec.{leb, ltb, eqb}
-use lib.ListN.{getD, set, take, drop, replicate}
+use lib.ListN.{getD, set, take, drop}
 use Rattle.calculus.specs.declared.answer.Answer.{Answer}
 use Rattle.calculus.specs.declared.answer.Answer.the-variants.{Ok, Made, Closed, No, Assoc, End}
 use Rattle.calculus.specs.declared.answer.Refusal.{Refusal}
@@ -31,7 +31,7 @@ use Rattle.model.specs.Packet.{bare}
 use Rattle.model.specs.Item.{isWait, isDataItem, howManyItems}
 use Rattle.model.specs.Row.{held, raised, lowered, spiOf}
 use Rattle.model.specs.Rules.{rule}
-use Rattle.model.specs.State.{blankSlot, blankRow, load, store, isNumbered, putItem, placed, answerOf, applied}
+use Rattle.model.specs.State.{blankSlot, blankPart, load, store, isNumbered, putItem, placed, answerOf, applied}
 
 -- ---- refusals
 
@@ -178,19 +178,25 @@ sendMove w tag t =
     checked refuse ((unused t, Idle) ∷ (leb 12 (howManyItems isDataItem (t .items)), Full) ∷ (spent t, Spent) ∷ [])
     (moved (madeNext t) (sending t w tag) (noRows false))
 
--- "close u: its items and rows go; none begun; stage unused"
-unfoldable pub closing : Part → Part
-closing t =
+-- t, unused, with the places of `blank` in place of its own
+abbrev pub emptied : Part → Part → Part
+emptied blank t =
     record {
       session = record { stage = Stage.Unused; client = 0; server = 0; begun = 0; rows = 0; last = t .session .last };
-      items = replicate 16 blankSlot;
-      rows = replicate 32 blankRow;
+      items = blank .items;
+      rows = blank .rows;
     }
 
--- close 7
+-- "close u: its items and rows go; none begun; stage unused"
+unfoldable pub closing : Part → Part
+closing t = emptied blankPart t
+
+-- close 7, which leaves the part p
+abbrev pub closeTo : Part → Part → Move
+closeTo p t = checked refuse ((unused t, Idle) ∷ []) (moved Closed p (record { opens = false; went = held t; came = [] }))
+
 unfoldable pub closeMove : Part → Move
-closeMove t =
-    checked refuse ((unused t, Idle) ∷ []) (moved Closed (closing t) (record { opens = false; went = held t; came = [] }))
+closeMove t = closeTo (closing t) t
 
 -- ---- a move made
 

@@ -38,6 +38,10 @@ blankRow = record { node = 0; out = false; source = 0; destination = 0; peer = 0
 abbrev pub blankSession : Session
 blankSession = record { stage = Stage.Unused; client = 0; server = 0; begun = 0; rows = 0; last = 0 }
 
+-- the part of a session that was never open
+abbrev pub blankPart : Part
+blankPart = record { session = blankSession; items = replicate 16 blankSlot; rows = replicate 32 blankRow }
+
 -- "no node, no route and no users; every session is unused, with no items, no rows, none begun and last number 0"
 abbrev pub fresh : State
 fresh =

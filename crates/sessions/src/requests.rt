@@ -21,8 +21,6 @@ use calculus::session::Session;
 use calculus::session::Stage;
 use calculus::state::Moved;
 use calculus::state::Part;
-use lookups::blank::blank_row;
-use lookups::blank::blank_slot;
 use lookups::network::given;
 use lookups::network::is_gateway;
 use lookups::users::lower;
@@ -261,12 +259,13 @@ pub fn send(t: Part, w: Sender, tag: u32) -> Moved
 
 // ---- close
 
-fn closing(t: Part) -> Part
-    ensures { λ r. ⌜ r ≡ spec.closing t ⌝ }
+// The part, unused, with the places of `blank` in place of its own.
+fn emptied(blank: Part, t: Part) -> Part
+    ensures { λ r. ⌜ r ≡ spec.emptied blank t ⌝ }
 {
     let s = t.session;
-    let slot = blank_slot();
-    let row = blank_row();
+    let items = blank.items;
+    let rows = blank.rows;
     Part {
         session: Session {
             stage: Stage::Unused,
@@ -276,14 +275,14 @@ fn closing(t: Part) -> Part
             rows: 0,
             last: s.last,
         },
-        items: [slot; 16],
-        rows: [row; 32],
+        items,
+        rows,
     }
 }
 
-// close u, where `t` is u's part: refusal 7.
-pub fn close(users: &mut [u16; 2048], t: Part) -> Moved
-    ensures { λ r. ⌜ Moves (now (users .entry)) t (spec.closeMove t) (now (users .exit)) r ⌝ }
+// close u, where `t` is u's part: refusal 7. It leaves the places of `blank`, which the caller has ready.
+pub fn close(users: &mut [u16; 2048], t: Part, blank: Part) -> Moved
+    ensures { λ r. ⌜ Moves (now (users .entry)) t (spec.closeTo (spec.emptied blank t) t) (now (users .exit)) r ⌝ }
 {
     let s = t.session;
     let stage = s.stage;
@@ -292,7 +291,7 @@ pub fn close(users: &mut [u16; 2048], t: Part) -> Moved
     }
     let rows = t.rows;
     lower(users, rows, s.rows);
-    let part = closing(t);
+    let part = emptied(blank, t);
     Moved {
         opens: false,
         answer: Answer::Closed,

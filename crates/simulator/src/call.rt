@@ -13,6 +13,7 @@ use calculus::session::Session;
 use calculus::session::Stage;
 use calculus::state::State;
 use forms::read::read;
+use lookups::blank::blank_part;
 use lookups::blank::blank_row;
 use lookups::blank::blank_slot;
 use lookups::network::no_node;
@@ -116,7 +117,8 @@ pub fn call(s: State, line: &[u8], out: &mut [u8]) -> Reply
     let before = s.network;
     let mut users = s.users;
     let part = load(s, session);
-    let moved = turn(s.opened, before, &mut users, part, parsed);
+    let blank = blank_part();
+    let moved = turn(s.opened, before, &mut users, part, blank, parsed);
     let answer = moved.answer;
     let left = moved.part;
     let written = put_answers(out, 0, &users, parsed, answer);

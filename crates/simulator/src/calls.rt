@@ -12,6 +12,7 @@ use calculus::state::State;
 use forms::line::Line;
 use forms::read::read;
 use lines::line_at;
+use lookups::blank::blank_part;
 ghost use mathlib.Core.Path.{_≡_};
 ghost use Rattle.model.specs.Batch.{isLast, nextCall, answeredText};
 ghost use Rattle.simulator.specs.Batch.{Answers};
@@ -50,6 +51,7 @@ fn next_call(text: &[u8], from: usize, room: usize) -> Line
 pub fn calls(s: State, text: &[u8], out: &mut [u8]) -> Answered
     ensures { λ r. ⌜ Answers (now (out .exit)) r (answeredText s (now (text .entry)) (now (out .entry))) ⌝ }
 {
+    let blank = blank_part();
     let mut parts = unpack(s);
     let mut opened = s.opened;
     let mut network = s.network;
@@ -65,7 +67,7 @@ pub fn calls(s: State, text: &[u8], out: &mut [u8]) -> Answered
                 let session = session_of(parsed);
                 let at = session.0 as usize - 1;
                 let part = parts[at];
-                let moved = turn(opened, network, &mut users, part, parsed);
+                let moved = turn(opened, network, &mut users, part, blank, parsed);
                 let answer = moved.answer;
                 let left = moved.part;
                 parts[at] = left;

@@ -22,6 +22,7 @@ ghost use lib.Dec.{eqb};
 ghost use Rattle.calculus.specs.declared.answer.Answer.the-variants.{Ok, No};
 ghost use Rattle.model.specs.Network as network;
 ghost use Rattle.model.specs.Requests as spec;
+ghost use Rattle.model.specs.State as state;
 ghost use Rattle.model.specs.Turn as turns;
 ghost use Rattle.simulator.specs.Range.{IsNode, InRange, Ranged};
 
@@ -218,8 +219,16 @@ fn staying(t: Part, answer: Answer) -> Moved
     }
 }
 
-// What a request does to the part `t` and to the users, and its answer.
-fn requested(opened: bool, n: Network, users: &mut [u16; 2048], t: Part, q: Request) -> Moved
+// What a request does to the part `t` and to the users, and its answer. `blank` is made once for many calls.
+fn requested(
+    opened: bool,
+    n: Network,
+    users: &mut [u16; 2048],
+    t: Part,
+    blank: Part,
+    q: Request,
+) -> Moved
+    requires { ⌜ blank ≡ state.blankPart ⌝ }
     ensures { λ r. ⌜ (r ≡ turns.requestedOf opened n (now (users .entry)) t q) × (now (users .exit) ≡ turns.usersWith n (now (users .entry)) t q) ⌝ }
 {
     match q {
@@ -242,17 +251,25 @@ fn requested(opened: bool, n: Network, users: &mut [u16; 2048], t: Part, q: Requ
         } => open(n, t, client, server),
         Request::Step(_, item) => step(n, users, t, item),
         Request::Send(_, sender, tag) => send(t, sender, tag),
-        Request::Close(_) => close(users, t),
+        Request::Close(_) => close(users, t, blank),
         Request::Show => staying(t, Answer::End),
     }
 }
 
 // What a line does to the part `t` of its session and to the users, and its answer.
-pub fn turn(opened: bool, n: Network, users: &mut [u16; 2048], t: Part, p: Parsed) -> Moved
+pub fn turn(
+    opened: bool,
+    n: Network,
+    users: &mut [u16; 2048],
+    t: Part,
+    blank: Part,
+    p: Parsed,
+) -> Moved
+    requires { ⌜ blank ≡ state.blankPart ⌝ }
     ensures { λ r. ⌜ (r ≡ turns.turnOf opened n (now (users .entry)) t p) × (now (users .exit) ≡ turns.usersOf n (now (users .entry)) t p) ⌝ }
 {
     match p {
-        Parsed::Asks(q) => requested(opened, n, users, t, q),
+        Parsed::Asks(q) => requested(opened, n, users, t, blank, q),
         Parsed::Refused(r) => staying(t, Answer::No(r)),
     }
 }

@@ -34,9 +34,9 @@ numbered c = rw (c .session-of .ensures, c .before .read .ensures) (asked-number
 reply : (c : tie.After-store) (n : Network)
     → let c₅ = c .before .before .before .before .before in
     let c₉ = c₅ .before .before .before .before in
-    let c₁₅ = c₉ .before .before .before .before .before .before in
-    let x = c₁₅ .before .before .before .before .args in
-    let r = c₁₅ .read .result in
+    let c₁₆ = c₉ .before .before .before .before .before .before .before in
+    let x = c₁₆ .before .before .before .before .args in
+    let r = c₁₆ .read .result in
     n ≡ cond (isOk (c₉ .turn .result .answer)) (networkOf (x .s .network) (r .has) (r .needs) (r .parsed)) (x .s .network)
     → Replies (x .out .now) (answered (x .s) (x .line .now) (length (x .out .now))) (c₅ .put-answers .last .0)
     (record {
@@ -56,13 +56,13 @@ reply c n e =
     let c₂ = c .before .before in
     let c₅ = c₂ .before .before .before in
     let c₉ = c₅ .before .before .before .before in
-    let c₁₁ = c₉ .before .before in
-    let c₁₄ = c₁₁ .before .before .before in
-    let c₁₅ = c₁₄ .before in
-    let x = c₁₅ .before .before .before .before .args in
-    replied (x .s) (x .line .now) (c₁₅ .read .result) (c₁₅ .read .ensures) (c₁₄ .session-of .result .0) (rw (c₁₄ .session-of .ensures))
-    (c₉ .turn .result) (c₉ .turn .last .1 .1 .0) (rw (← c₁₁ .load .ensures) (c₉ .turn .ensures .0)) (rw (← c₁₁ .load .ensures) (c₉ .turn .ensures .1))
-    (c₁₅ .before .if1 .left) (c₅ .put-answers .ensures) (c .store .result) (c .store .ensures) (c .before .is-opened .result)
+    let c₁₂ = c₉ .before .before .before in
+    let c₁₅ = c₁₂ .before .before .before in
+    let c₁₆ = c₁₅ .before in
+    let x = c₁₆ .before .before .before .before .args in
+    replied (x .s) (x .line .now) (c₁₆ .read .result) (c₁₆ .read .ensures) (c₁₅ .session-of .result .0) (rw (c₁₅ .session-of .ensures))
+    (c₉ .turn .result) (c₉ .turn .last .1 .1 .0) (rw (← c₁₂ .load .ensures) (c₉ .turn .ensures .0)) (rw (← c₁₂ .load .ensures) (c₉ .turn .ensures .1))
+    (c₁₆ .before .if1 .left) (c₅ .put-answers .ensures) (c .store .result) (c .store .ensures) (c .before .is-opened .result)
     (c .before .is-opened .ensures) n e (c₂ .status-of .result) (c₂ .status-of .ensures)
 
 returns-2 : tie.Need-returns-2
@@ -88,9 +88,10 @@ call-spec =
     (λ c κs. search needs)
     (λ c κs. search needs)
     (λ c κs. search needs)
-    (λ c κs. numbered (c .before .before .before .before .before .before .before .before .before .before .before .before .before))
     (λ c κs. search needs)
-    (λ c κs. ranged (c .before .before .before .before .before .before .before .before .before .before .before .before .before .before .before .before .before .before .before))
+    (λ c κs. numbered (c .before .before .before .before .before .before .before .before .before .before .before .before .before .before))
+    (λ c κs. search needs)
+    (λ c κs. ranged (c .before .before .before .before .before .before .before .before .before .before .before .before .before .before .before .before .before .before .before .before))
     (λ c. search needs)
     returns-2
     (λ c. search needs)

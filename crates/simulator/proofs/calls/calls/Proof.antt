@@ -15,17 +15,17 @@ use Rattle.simulator.proofs.calls.calls.Statement.{statement}
 use Rattle.simulator.proofs.calls.calls.Tie as tie
 
 abbrev Inv-loop : tie.InvT-loop
-Inv-loop s text out₀ parts₀ opened₀ network₀ users₀ from₀ written₀ going₀ out parts opened network users from written going =
+Inv-loop s text out₀ blank parts₀ opened₀ network₀ users₀ from₀ written₀ going₀ out parts opened network users from written going =
     Answering s text out₀ out parts opened network users from written going
 
 abbrev μ-loop : tie.MeasureT-loop
-μ-loop s text out₀ parts₀ opened₀ network₀ users₀ from₀ written₀ going₀ out parts opened network users from written going =
+μ-loop s text out₀ blank parts₀ opened₀ network₀ users₀ from₀ written₀ going₀ out parts opened network users from written going =
     length text - from + cond going 1 0
 
 -- the line that was found
 found : (c : tie.After-stop Inv-loop μ-loop)
     → let c₄ = c .before .before .before .before in
-    Next (c₄ .before .before .before .before .before .before .args .text .now) (c₄ .loop .from) (length (c₄ .loop .out) - c₄ .loop .written)
+    Next (c₄ .before .before .before .before .before .before .before .args .text .now) (c₄ .loop .from) (length (c₄ .loop .out) - c₄ .loop .written)
     (c .stop .given .0 .0) (c .stop .given .0 .1 .0)
 found c = next-found _ _ _ _ _ (join (c .before .before .next-call .ensures) (c .stop .given .1))
 
@@ -33,7 +33,7 @@ found c = next-found _ _ _ _ _ (join (c .before .before .next-call .ensures) (c 
 reads : (c : tie.After-read Inv-loop μ-loop)
     → let c₃ = c .before .before .before in
     let c₇ = c₃ .before .before .before .before in
-    Reads (c₇ .before .before .before .before .before .before .args .text .now) (c₇ .loop .from) (c₃ .stop .given .0 .0) (c .read .result)
+    Reads (c₇ .before .before .before .before .before .before .before .args .text .now) (c₇ .loop .from) (c₃ .stop .given .0 .0) (c .read .result)
 reads c = record { same = c .read .ensures }
 
 -- the session that it names
@@ -41,7 +41,7 @@ numbered : (c : tie.After-session-of Inv-loop μ-loop) → (1 ≤ c .session-of 
 numbered c = rw (c .session-of .ensures) (reads-numbered (reads (c .before)))
 
 loop-holds : tie.Need-loop-holds Inv-loop μ-loop
-loop-holds c = answering-first _ _ _ (state-sized _ _ (c .before .before .before .before .before .good .0)) (c .before .before .unpack .ensures)
+loop-holds c = answering-first _ _ _ (state-sized _ _ (c .before .before .before .before .before .before .good .0)) (c .before .before .unpack .ensures)
 
 -- where its line was read
 abbrev behind : (c : tie.After-put-answers Inv-loop μ-loop) → tie.After-read Inv-loop μ-loop
@@ -53,7 +53,7 @@ more : (c : tie.After-put-answers Inv-loop μ-loop) (n : Network)
     let c₁₀ = c₅ .before .before .before .before .before in
     let c₁₃ = c₁₀ .before .before .before in
     let c₁₇ = c₁₃ .before .before .before .before in
-    let x = c₁₇ .before .before .before .before .before .before .args in
+    let x = c₁₇ .before .before .before .before .before .before .before .args in
     let r = c₁₀ .read .result in
     n ≡ cond (isOk (c₅ .turn .result .answer)) (networkOf (c₁₇ .loop .network) (r .has) (r .needs) (r .parsed)) (c₁₇ .loop .network)
     → Answering (x .s) (x .text .now) (x .out .now) (c .put-answers .last .0)
@@ -90,6 +90,7 @@ calls-spec =
     (tie.spec
     Inv-loop
     μ-loop
+    (λ c κs. search needs)
     (λ c κs. search needs)
     loop-holds
     (λ c. search needs)
