@@ -28,3 +28,5 @@ pub mod Show
 pub mod Listings
 pub mod Turns
 pub mod Batch
+pub mod Texts
+pub mod Stream

@@ -10,6 +10,8 @@ pub mod Requests
 pub mod Calls
 pub mod Turn
 pub mod Batch
+pub mod Texts
+pub mod Stream
 pub mod Noninterference
 pub mod SetUp
 pub mod Refusals

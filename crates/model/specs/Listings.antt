@@ -17,7 +17,11 @@ use Rattle.forms.specs.Read.{read}
 use Rattle.forms.specs.Request.{asked}
 use Rattle.model.specs.Item.{isWait, vacant}
 use Rattle.model.specs.State.{fresh, load}
-use Rattle.model.specs.Calls.{Call, call, linesOf, replies}
+use Rattle.model.specs.Calls.{Call, call, linesOf, replies, after}
+use Rattle.model.specs.Noninterference.{View, view}
+use Rattle.model.specs.Row.{outRow, inRow}
+use Rattle.calculus.specs.declared.session.Stage.{Stage}
+use mathlib.Core.Option.{some}
 
 -- a call's line, and the bytes that it writes
 pub record Exchange : Type 0 where
@@ -289,3 +293,6 @@ pub record Listings : Type 0 where
   pub lowestB : onlyLowest fresh listingB ≡ true
   pub lowestF : onlyLowest fresh listingF ≡ true
   pub further : map outputs furtherExamples ≡ map expected furtherExamples
+  -- what session 1 holds at the end of B
+  pub viewB : view (after fresh (map callOf listingB)) 1 ≡ record { stage = Stage.Open; ends = some (1, 2); items = []; rows = outRow 1 1 2 2 1 ∷ inRow 1 2 1 2 1 ∷ outRow 2 2 1 1 1 ∷ inRow 2 1 2 1 1 ∷ []; begun = 1; last = 25 }
+  pub stageF : view (after fresh (map callOf listingF)) 1 .stage ≡ Stage.Denied

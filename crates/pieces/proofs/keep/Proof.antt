@@ -8,8 +8,8 @@ use native.Mathlib.Omega.{arith}
 use lib.ListN.{length, getD, set, take, drop, length-drop}
 use lib.Seq.{getD-drop, drop-paste, take-paste}
 use Rattle.simulator.proofs.Copies.{Loaded, loaded-none, loaded-more, stored-all}
-use Rattle.simulate.proofs.keep.Statement.{statement}
-use Rattle.simulate.proofs.keep.Tie as tie
+use Rattle.pieces.proofs.keep.Statement.{statement}
+use Rattle.pieces.proofs.keep.Tie as tie
 
 -- of n turns i are done: m is l with its first i bytes replaced by those of l from `from` on
 module _ {l m : List ℕ} {from n i : ℕ} (w : Loaded l from l n m i) (k : from + n ≤ length l) where

@@ -1,0 +1,157 @@
+// Input that comes in pieces, answered as it comes. The bytes that came stand in a buffer that the caller lends; a turn answers
+// lines of them, and keeps at the buffer's front what stays of a line whose newline has not come.
+use calculus::state::State;
+use forms::line::Line;
+use lines::line_at;
+use simulator::call::call;
+use simulator::call::fresh;
+use simulator::calls::calls;
+ghost use Prim.Native.Nat.{_≤_, min};
+ghost use mathlib.Core.Path.{_≡_};
+ghost use mathlib.Core.Bool.{_&&_};
+ghost use lib.Dec.{eqb};
+ghost use lib.ListN.{length};
+ghost use Rattle.model.specs.Stream.{hasLine};
+ghost use Rattle.pieces.specs.Keep.{Keeps};
+ghost use Rattle.pieces.specs.Turn.{unread, Starts, Advances, Finishes, Turns};
+
+// So many bytes are too many for a form, whatever follows them in their line.
+const TOO_LONG: usize = 401;
+
+// How far the input is answered: the state; the bytes of the buffer from `from` to `to` came and are not read; whether more of
+// the input is wanted, or it is over; how many bytes of the output the last turn wrote.
+pub struct Stream {
+    pub state: State,
+    pub from: usize,
+    pub to: usize,
+    pub wants: bool,
+    pub over: bool,
+    pub written: usize,
+}
+
+fn least(a: usize, b: usize) -> usize
+    ensures { λ r. ⌜ r ≡ min a b ⌝ }
+{
+    if a < b { a } else { b }
+}
+
+// Moves the bytes from `from` up to `to` to the front and answers how many they are. Of a line that is too long already no
+// more than shows it is kept.
+fn keep(input: &mut [u8], from: usize, to: usize) -> usize
+    requires { ⌜ (from ≤ to) × (to ≤ length (now input)) ⌝ }
+    ensures { λ r. ⌜ Keeps (now (input .entry)) from to (now (input .exit)) r ⌝ }
+{
+    let n = least(to - from, TOO_LONG);
+    let mut i: usize = 0;
+    while i < n {
+        let byte = input[from + i];
+        input[i] = byte;
+        i += 1;
+    }
+    n
+}
+
+fn has_line(text: &[u8]) -> bool
+    ensures { λ r. ⌜ r ≡ hasLine (now (text .entry)) ⌝ }
+{
+    match line_at(text, 0) {
+        Line::Found { stop, next } => stop < next,
+        Line::End => false,
+    }
+}
+
+// Answers lines of the bytes from `from` to `to`, as many as the output has room for.
+fn answer(s: State, input: &mut [u8], from: usize, to: usize, out: &mut [u8]) -> Stream
+    requires { ⌜ (from ≤ to) × (to ≤ length (now input)) ⌝ }
+    ensures { λ r. ⌜ Advances s (unread from to (now (input .entry))) (now (out .entry)) (now (input .exit)) (now (out .exit)) r ⌝ }
+{
+    let answered = calls(s, &input[from..to], out);
+    let state = answered.state;
+    let written = answered.written;
+    let next = from + answered.read;
+    if has_line(&input[next..to]) {
+        return Stream {
+            state,
+            from: next,
+            to,
+            wants: false,
+            over: false,
+            written,
+        };
+    }
+    let kept = keep(input, next, to);
+    Stream {
+        state,
+        from: 0,
+        to: kept,
+        wants: true,
+        over: false,
+        written,
+    }
+}
+
+// The end of the input: the tail is a line too, if it is not empty.
+fn finish(s: State, tail: &[u8], out: &mut [u8]) -> Stream
+    ensures { λ r. ⌜ Finishes s (now (tail .entry)) (now (out .entry)) (now (out .exit)) r ⌝ }
+{
+    if tail.len() == 0 {
+        return Stream {
+            state: s,
+            from: 0,
+            to: 0,
+            wants: false,
+            over: true,
+            written: 0,
+        };
+    }
+    let reply = call(s, tail, out);
+    let state = reply.state;
+    let written = reply.written;
+    Stream {
+        state,
+        from: 0,
+        to: 0,
+        wants: false,
+        over: true,
+        written,
+    }
+}
+
+fn is_end(wants: bool, got: usize) -> bool
+    ensures { λ r. ⌜ r ≡ (wants && eqb got 0) ⌝ }
+{
+    if wants {
+        return got == 0;
+    }
+    false
+}
+
+// A stream of which nothing came yet.
+pub fn start() -> Stream
+    ensures { λ r. ⌜ Starts r ⌝ }
+{
+    let state = fresh();
+    Stream {
+        state,
+        from: 0,
+        to: 0,
+        wants: true,
+        over: false,
+        written: 0,
+    }
+}
+
+// A turn: `got` bytes came behind those in the buffer, none at the end of the input. Answers what can be answered.
+pub fn turn(stream: Stream, input: &mut [u8], got: usize, out: &mut [u8]) -> Stream
+    ensures { λ r. ⌜ Turns stream got (now (input .entry)) (now (out .entry)) (now (input .exit)) (now (out .exit)) r ⌝ }
+{
+    let size = input.len();
+    let to = least(stream.to, size);
+    let from = least(stream.from, to);
+    let s = stream.state;
+    if is_end(stream.wants, got) {
+        return finish(s, &input[from..to], out);
+    }
+    let filled = to + least(got, size - to);
+    answer(s, input, from, filled, out)
+}

@@ -1,2 +1,0 @@
--- What the contracts of `simulate` cite.
-pub mod Keep
