@@ -19,7 +19,7 @@ pub fn is_node(n: u64) -> bool
 // A set-up session, 1 to 8.
 pub struct SessionNumber(pub u8);
 
-// An item of one session, 1 to 1,000,000.
+// An item of one session, 1 to 1,000,000; 0 is no item's.
 pub struct ItemNumber(pub u32);
 
 // A security parameters index. 0 to 255 are reserved.

@@ -1,4 +1,5 @@
 // A session and its rows.
+use crate::number::ItemNumber;
 
 // How far a set-up has come.
 pub enum Stage {
@@ -16,7 +17,7 @@ pub struct Session {
     pub server: u8,
     pub begun: u8,
     pub rows: u8,
-    pub last: u32,
+    pub last: ItemNumber,
 }
 
 // A row (a policy entry): packets from `source` to `destination`, its filter, go through the tunnel between `node` and

@@ -112,7 +112,7 @@ local-numbers n (c ∷ cs) t =
       last = b .last ∙ omega (arith, a .last);
       carried =
           ap₂ _++_ (a .carried) (b .carried ∙ ap (λ (x : ℕ). upFrom x (b .many)) (a .last))
-          ∙ sym (up-append (t .session .last) (a .many) (b .many));
+          ∙ sym (up-append (t .session .last .0) (a .many) (b .many));
     }
 
 -- ---- the three together
@@ -120,7 +120,7 @@ local-numbers n (c ∷ cs) t =
 pub record Alone (u : ℕ) (s : State) (cs : List Call) : Type 0 where
   pub answers : map observed (repliesTo u s cs) ≡ map observed (replies s (own u cs))
   pub part : load (after s cs) u ≡ load (after s (own u cs)) u
-  pub numbers : load s u .session .last ≡ 0 → issued (repliesTo u s cs) ≡ upFrom 0 (load (after s cs) u .session .last)
+  pub numbers : load s u .session .last .0 ≡ 0 → issued (repliesTo u s cs) ≡ upFrom 0 (load (after s cs) u .session .last .0)
 
 pub alone : (u : ℕ) → Numbered u → (cs : List Call) (s : State) → Good s → Plain cs → Alone u s cs
 alone u hu cs s g p =
@@ -137,5 +137,5 @@ alone u hu cs s g p =
       part = a .part ∙ sym (rw e at (b .part));
       numbers = λ z.
           issued-seen u (repliesTo u s cs) ∙ ap issuedIn (a .seen) ∙ l .carried
-          ∙ ap₂ upFrom z (omega (arith, z, l .last, ap (λ (t : Part). t .session .last) (a .part)));
+          ∙ ap₂ upFrom z (omega (arith, z, l .last, ap (λ (t : Part). t .session .last .0) (a .part)));
     }

@@ -51,7 +51,7 @@ applied-whole t h at f =
     omega (
       arith,
       h,
-      length-after (t .items) (t .session .last) at f,
+      length-after (t .items) (t .session .last .0) at f,
       length-sets (t .rows) (t .session .rows) (placed (t .session .rows) (f .added)),
     )
 

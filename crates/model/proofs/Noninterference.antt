@@ -50,8 +50,8 @@ module _ (ns cs : List Call) (hn : All (λ c. givesNetwork c ≡ true) ns) (hc :
   abbrev end : State
   end = after start cs
 
-  unwritten : load start u .session .last ≡ 0
-  unwritten = ap (λ (t : Part). t .session .last) (network-load ns fresh fresh-good hn u hu ∙ load-fresh u hu)
+  unwritten : load start u .session .last .0 ≡ 0
+  unwritten = ap (λ (t : Part). t .session .last .0) (network-load ns fresh fresh-good hn u hu ∙ load-fresh u hu)
 
   noninterferes : Noninterferes start cs u
   noninterferes =

@@ -36,8 +36,8 @@ up-append n (suc j) k =
 -- as many numbers as the part's last number grew by, those after it
 pub record Issued (t t′ : Part) (l : List ℕ) : Type 0 where
   pub many : ℕ
-  pub last : t′ .session .last ≡ t .session .last + many
-  pub carried : l ≡ upFrom (t .session .last) many
+  pub last : t′ .session .last .0 ≡ t .session .last .0 + many
+  pub carried : l ≡ upFrom (t .session .last .0) many
 
 abbrev Issues : Part → Seen → Type 0
 Issues t x = Issued t (x .part) (numbersInAll (x .answers))
@@ -62,7 +62,7 @@ answer-numbers n (Delivered tag) = refl
 module _ (t : Part) where
   step-issues : (at : ℕ) (f : Effect) → IssuesMove t (stepped t at f)
   unfolding stepped applied sessionAfter
-  step-issues at f = record { many = writtenCount (f .outcome); last = refl; carried = answer-numbers (t .session .last) (f .outcome) }
+  step-issues at f = record { many = writtenCount (f .outcome); last = refl; carried = answer-numbers (t .session .last .0) (f .outcome) }
 
   move-issues : (n : Network) (q : request.Request) → IssuesMove t (ownMove n areNodes q t)
   unfolding openMove opening stepMove stepAt sendMove sending closeMove closing upFrom

@@ -26,7 +26,7 @@ use Rattle.model.specs.Requests.{withItem}
 use Rattle.model.proofs.Checks.{either, one, one-le}
 
 pub record Distinct (t : Part) : Type 0 where
-  pub once : (k : ℕ) → tally (isNumbered k) (t .items) ≤ one (within 1 (t .session .last) k)
+  pub once : (k : ℕ) → tally (isNumbered k) (t .items) ≤ one (within 1 (t .session .last .0) k)
 
 -- ---- places
 
@@ -95,9 +95,9 @@ module _ (t : Part) (h : Distinct t) where
   distinct-step at f =
       record {
         once = λ k.
-            written-once k (useUp (set (t .items) at blankSlot) (f .wait)) (t .session .last) (f .outcome)
+            written-once k (useUp (set (t .items) at blankSlot) (f .wait)) (t .session .last .0) (f .outcome)
             (omega (arith, gone-once k (t .items) at (f .wait), h .once k));
       }
 
   pub distinct-item : (g : Stage) (c d : ℕ) (i : Item) → Distinct (withItem t g c d i)
-  distinct-item g c d i = record { once = λ k. written-once k (t .items) (t .session .last) (Wrote i) (h .once k) }
+  distinct-item g c d i = record { once = λ k. written-once k (t .items) (t .session .last .0) (Wrote i) (h .once k) }

@@ -72,7 +72,7 @@ outcome-answers n (outcome.Delivered tag) = refl
 
 step-answers : (t : Part) (at : ℕ) (f : Effect) → Answers (stepped t at f)
 unfolding stepped
-step-answers t at f = outcome-answers (t .session .last) (f .outcome)
+step-answers t at f = outcome-answers (t .session .last .0) (f .outcome)
 
 move-answers : (n : Network) (standing : ℕ → ℕ → Bool) (q : request.Request) (t : Part) → Answers (ownMove n standing q t)
 unfolding openMove stepMove stepAt sendMove closeMove

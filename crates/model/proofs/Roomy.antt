@@ -36,7 +36,7 @@ pub record Roomy (t : Part) : Type 0 where
 abbrev pub emptied : ℕ → Part
 emptied last =
     record {
-      session = record { stage = Stage.Unused; client = 0; server = 0; begun = 0; rows = 0; last = last };
+      session = record { stage = Stage.Unused; client = 0; server = 0; begun = 0; rows = 0; last = record { 0 = last } };
       items = replicate 16 blankSlot;
       rows = replicate 32 blankRow;
     }
@@ -71,7 +71,7 @@ module _ (t : Part) (h : Roomy t) where
         → weigh x (applied t at f .items) + (x item + weighWait x (f .wait)) ≡ weigh x (t .items) + weighOut x (f .outcome)
     unfolding applied
     step-ledger x z =
-        ledger x z (t .items) (t .session .last) at f (omega arith) (pends item rest still (f .wait) (law .wants)) (omega (arith, pending (t .items)))
+        ledger x z (t .items) (t .session .last .0) at f (omega arith) (pends item rest still (f .wait) (law .wants)) (omega (arith, pending (t .items)))
 
     pub roomy-step : Roomy (applied t at f)
     unfolding waits uses space carries due applied sessionAfter

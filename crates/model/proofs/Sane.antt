@@ -85,7 +85,7 @@ pub record Sane (t : Part) : Type 0 where
   pub rows : All RowNamed (held t)
   pub items : All (At (Named (t .session .server))) (t .items)
   pub ends : unused t ≡ false → Node (t .session .client) × Node (t .session .server)
-  pub last : t .session .last ≤ 1000000
+  pub last : t .session .last .0 ≤ 1000000
   pub distinct : Distinct t
   pub idle : unused t ≡ true → (t .session .rows ≡ 0) × (t .session .begun ≡ 0)
 
@@ -139,9 +139,9 @@ module _ (t : Part) (h : Sane t) where
           rows = rw (held-applied t (h .roomy .whole) at f)
               (all-append RowNamed (held t) (placed (t .session .rows) (f .added)) (h .rows)
               (all-take RowNamed (32 - t .session .rows) (addedRows (f .added)) (k .1)));
-          items = all-after (Named v) tt (t .items) (t .session .last) at f (h .items) (k .0);
+          items = all-after (Named v) tt (t .items) (t .session .last .0) at f (h .items) (k .0);
           ends = λ w. ends;
-          last = omega (arith, ltb-false 999998 (t .session .last) l, written-few (f .outcome));
+          last = omega (arith, ltb-false 999998 (t .session .last .0) l, written-few (f .outcome));
           distinct = distinct-step t (h .distinct) at f;
           idle = λ e. absurd (still-used (t .session .stage) (stageAfter (t .session .stage) (f .outcome)) u e (rule-law n standing t i .stage));
         }
@@ -166,7 +166,7 @@ module _ (t : Part) (h : Sane t) where
         rows = h .rows;
         items = all-put (Named d) (t .items) (nextNumber t) i items k;
         ends = λ e. (hc, hd);
-        last = omega (arith, ltb-false 999998 (t .session .last) l);
+        last = omega (arith, ltb-false 999998 (t .session .last .0) l);
         distinct = distinct-item t (h .distinct) g c d i;
         idle = λ e. never (sym u ∙ e);
       }
@@ -216,4 +216,4 @@ module _ (t : Part) (h : Sane t) where
 
   pub sane-close : SaneMove (closeMove t)
   unfolding closeMove closing
-  sane-close = checked-either SaneMove refuse (λ r. tt) _ (λ e. sane-empty (t .session .last) (h .last))
+  sane-close = checked-either SaneMove refuse (λ r. tt) _ (λ e. sane-empty (t .session .last .0) (h .last))

@@ -88,7 +88,7 @@ viewOf t =
       items = pending (t .items);
       rows = held t;
       begun = t .session .begun;
-      last = t .session .last;
+      last = t .session .last .0;
     }
 
 abbrev pub view : State → ℕ → View

@@ -113,17 +113,17 @@ unused t = isUnused (t .session .stage)
 
 -- "last number above 999,998"
 abbrev pub spent : Part → Bool
-spent t = ltb 999998 (t .session .last)
+spent t = ltb 999998 (t .session .last .0)
 
 -- the next number
 abbrev pub nextNumber : Part → ℕ
-nextNumber t = t .session .last + 1
+nextNumber t = t .session .last .0 + 1
 
 -- the session at this stage and between these ends, with the item i written
 abbrev pub withItem : Part → Stage → ℕ → ℕ → Item → Part
 withItem t g c d i =
     record {
-      session = record { stage = g; client = c; server = d; begun = t .session .begun; rows = t .session .rows; last = nextNumber t };
+      session = record { stage = g; client = c; server = d; begun = t .session .begun; rows = t .session .rows; last = record { 0 = nextNumber t } };
       items = putItem (t .items) (nextNumber t) i;
       rows = t .rows;
     }
@@ -150,7 +150,7 @@ openMove n c d t =
 -- the effect f of the item at place `at`
 unfoldable pub stepped : Part → ℕ → Effect → Move
 stepped t at f =
-    moved (answerOf (t .session .last) (f .outcome)) (applied t at f)
+    moved (answerOf (t .session .last .0) (f .outcome)) (applied t at f)
     (record { opens = false; went = []; came = placed (t .session .rows) (f .added) })
 
 -- step 7, 11, 12, 10: the item stands at place `at`, or at no place where it is not pending

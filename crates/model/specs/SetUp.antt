@@ -111,9 +111,9 @@ pub record Holds (s : State) (t : Part) : Type 0 where
   -- "no Disc reaches up"
   pub discs : howManyItems isDiscOffWire (t .items) ≡ 0
   -- "from 1 to 1,000,000"
-  pub last : t .session .last ≤ 1000000
+  pub last : t .session .last .0 ≤ 1000000
   -- no two pending items have one number, and each has one that was issued
-  pub numbers : (k : ℕ) → tally (isNumbered k) (t .items) ≤ cond (within 1 (t .session .last) k) 1 0
+  pub numbers : (k : ℕ) → tally (isNumbered k) (t .items) ≤ cond (within 1 (t .session .last .0) k) 1 0
   -- an unused session has no items, no rows and none begun
   pub idle : unused t ≡ true → (howManyItems isPending (t .items) ≡ 0) × (t .session .rows ≡ 0) × (t .session .begun ≡ 0)
   -- users are the rows of all sessions that name the association, so they never come to either end of the table's numbers

@@ -36,7 +36,7 @@ abbrev pub blankRow : Row
 blankRow = record { node = 0; out = false; source = 0; destination = 0; peer = 0; establishment = 0 }
 
 abbrev pub blankSession : Session
-blankSession = record { stage = Stage.Unused; client = 0; server = 0; begun = 0; rows = 0; last = 0 }
+blankSession = record { stage = Stage.Unused; client = 0; server = 0; begun = 0; rows = 0; last = record { 0 = 0 } }
 
 -- the part of a session that was never open
 abbrev pub blankPart : Part
@@ -150,7 +150,7 @@ sessionAfter s f =
       server = s .server;
       begun = begunAfter (s .begun) (f .begins);
       rows = s .rows + length (placed (s .rows) (f .added));
-      last = s .last + writtenCount (f .outcome);
+      last = record { 0 = s .last .0 + writtenCount (f .outcome) };
     }
 
 -- the effect f of the item at place `at`
@@ -158,6 +158,6 @@ unfoldable pub applied : Part → ℕ → Effect → Part
 applied t at f =
     record {
       session = sessionAfter (t .session) f;
-      items = itemsAfter (t .items) (t .session .last) at f;
+      items = itemsAfter (t .items) (t .session .last .0) at f;
       rows = sets (t .rows) (t .session .rows) (placed (t .session .rows) (f .added));
     }
