@@ -46,6 +46,7 @@ pub record Law (s : Session) (i : Item) (f : Effect) : Type 0 where
   pub places : weighOut space (f .outcome) + spare (stageAfter (s .stage) (f .outcome)) ≤ space i + weighWait space (f .wait) + spare (s .stage)
   pub tags : weighOut carries (f .outcome) ≤ carries i
   pub stage : spare (stageAfter (s .stage) (f .outcome)) ≤ spare (s .stage)
+  pub begun : begunAfter (s .begun) (f .begins) - 8 ≤ s .begun - 8
   pub rows : weighOut due (f .outcome) + length (addedRows (f .added)) + 4 * (8 - begunAfter (s .begun) (f .begins)) ≤ due i + 4 * (8 - s .begun)
 
 discovers-space : (gateway : Bool) (server a : ℕ) (y : Payload) → discovers gateway server a y ≡ true → 3 ≤ packetSpace y

@@ -22,6 +22,14 @@ module _ {A : Type 0} (P : A → Type 0) where
   all-get (y ∷ l) zero d h k = h .0
   all-get (y ∷ l) (suc i) d h k = all-get l i d (h .1) k
 
+  -- what holds of the element at i and of x holds of that element once x is stored, wherever that is
+  pub get-set : (l : List A) (i j : ℕ) (x d : A) → P (getD l i d) → P x → P (getD (set l j x) i d)
+  get-set [] i j x d h k = h
+  get-set (y ∷ l) zero zero x d h k = k
+  get-set (y ∷ l) zero (suc j) x d h k = h
+  get-set (y ∷ l) (suc i) zero x d h k = h
+  get-set (y ∷ l) (suc i) (suc j) x d h k = get-set l i j x d h k
+
   pub all-append : (l m : List A) → All P l → All P m → All P (l ++ m)
   all-append [] m h k = k
   all-append (y ∷ l) m h k = (h .0, all-append l m (h .1) k)
@@ -39,6 +47,10 @@ module _ {A : Type 0} (P : A → Type 0) where
   pub all-replicate : (n : ℕ) (x : A) → P x → All P (replicate n x)
   all-replicate zero x k = tt
   all-replicate (suc n) x k = (k, all-replicate n x k)
+
+pub all-map : {A : Type 0} (P Q : A → Type 0) → ((x : A) → P x → Q x) → (l : List A) → All P l → All Q l
+all-map P Q f [] h = tt
+all-map P Q f (x ∷ l) h = (f x (h .0), all-map P Q f l (h .1))
 
 -- the front, and then what was stored after it
 pub take-sets : {A : Type 0} (l vs : List A) (n : ℕ) → n + length vs ≤ length l → take (n + length vs) (sets l n vs) ≡ take n l ++ vs

@@ -1,8 +1,9 @@
--- Every rule writes items and rows that name nodes only, and no Disc but on a wire. Assumes nothing.
+-- Every rule writes items and rows that name nodes only, no Disc but on a wire, and no wire of over 32 hops. Assumes nothing.
 use mathlib.Core.Path.{_≡_, refl, sym, _∙_}
 use mathlib.Core.Bool.{Bool, true, false, not, _&&_, or-true}
 use mathlib.Core.List.{List, [], _∷_}
-use Prim.Native.Nat.{ℕ}
+use Prim.Native.Nat.{ℕ, _≤_}
+use native.Mathlib.Omega.{arith}
 use lib.Dec.{leb, eqb}
 use borrow.Author.Tests.{eqb-true, eqb-false, eq-eqb, ne-eqb}
 use Rattle.calculus.proofs.Tests.{both, never}
@@ -66,7 +67,7 @@ NoDisc y = isDisc y ≡ false
 
 abbrev pub Named : ℕ → Item → Type 0
 Named v Free = Unit
-Named v (Wire a p h) = Node a × PacketNamed p × DiscNamed v (p .payload) (p .destination) (p .header)
+Named v (Wire a p h) = Node a × PacketNamed p × DiscNamed v (p .payload) (p .destination) (p .header) × (h ≤ 32)
 Named v (Out a p) = Node a × PacketNamed p × NoDisc (p .payload)
 Named v (Up a p) = Node a × PacketNamed p × NoDisc (p .payload)
 Named v (In a p q) = Node a × PacketNamed p × NoDisc (p .payload) × ViaNamed q
@@ -117,7 +118,7 @@ arrives v gateway a (Data tag) d h k o t = refl
 
 onward-named : (v : ℕ) (next : NextHop) (a : ℕ) (p : Packet) (h : ℕ) → LeadsToNode next → Named v (Wire a p h) → EffectNamed v (onward next p h)
 onward-named v Missing a p h k o = (tt, tt)
-onward-named v (Found next) a p h k o = ((k, o .1, o .2), tt)
+onward-named v (Found next) a p h k o = ((k, o .1, o .2, omega (arith, o .3)), tt)
 
 wire-named : (gateway : Bool) (next : NextHop) (s : Session) (a : ℕ) (p : Packet) (h : ℕ) → LeadsToNode next → Named (s .server) (Wire a p h)
     → EffectNamed (s .server) (wireRule gateway next s a p h)
@@ -157,6 +158,7 @@ out-named v rows a p h o =
           header = header-named a q (o .0) (newest-named true a p rows Untunnelled h tt);
         },
         λ e. never (sym (o .2) ∙ e),
+        omega arith,
       ),
       tt,
     )
@@ -193,7 +195,7 @@ ack-named : (s : Session) (a : ℕ) → Node (s .client) → Node (s .server) �
 unfolding ackRule
 ack-named s a c d h = (
   either (Named (s .server)) (eqb a (s .server)) (λ e. (h, bare-named (s .server) (s .client) Done d c, refl))
-      (λ e. (h, bare-named (s .client) (s .server) (Disc a) c d, λ k. (h, eqb-false a (s .server) e, refl, refl))),
+      (λ e. (h, bare-named (s .client) (s .server) (Disc a) c d, λ k. (h, eqb-false a (s .server) e, refl, refl), omega arith)),
   tt,
 )
 

@@ -15,9 +15,9 @@ use Rattle.calculus.specs.declared.state.Part.{Part}
 use Rattle.model.specs.State.{blankSlot, blankRow, addedRows, putItem, sessionAfter, applied}
 use Rattle.model.specs.Item.{isWait}
 use Rattle.model.specs.Requests.{nextNumber, withItem}
-use Rattle.model.specs.SetUp.{isPending}
+use Rattle.model.specs.SetUp.{isPending, itemAt}
 use Rattle.model.proofs.Parts.{Whole}
-use Rattle.model.proofs.Weights.{itemAt, count, weigh, weighOut, weighWait, weigh-set, weigh-at, weigh-put, not-that-wait, length-put, ledger}
+use Rattle.model.proofs.Weights.{count, weigh, weighOut, weighWait, weigh-set, weigh-at, weigh-put, not-that-wait, length-put, ledger}
 use Rattle.model.proofs.Moves.{applied-whole}
 use Rattle.model.proofs.SetUpWeights.{waits, uses, space, carries, due, spare, pending, pends}
 use Rattle.model.proofs.Balance.{Law}
@@ -29,6 +29,7 @@ pub record Roomy (t : Part) : Type 0 where
   -- the set-up holds 3 places at most, Data 12; an unused session holds none
   pub places : weigh space (t .items) + spare (t .session .stage) ≤ 3
   pub tags : weigh carries (t .items) + 4 * spare (t .session .stage) ≤ 12
+  pub begun : t .session .begun ≤ 8
   -- the rows there are and those to come: 4 for each of 8 establishments
   pub rows : weigh due (t .items) + 4 * (8 - t .session .begun) + t .session .rows ≤ 32
 
@@ -67,11 +68,16 @@ module _ (t : Part) (h : Roomy t) where
           not-that-wait v item w,
         )
 
-    step-ledger : (x : Item → ℕ) → x Free ≡ 0
+    pub step-ledger : (x : Item → ℕ) → x Free ≡ 0
         → weigh x (applied t at f .items) + (x item + weighWait x (f .wait)) ≡ weigh x (t .items) + weighOut x (f .outcome)
     unfolding applied
     step-ledger x z =
         ledger x z (t .items) (t .session .last .0) at f (omega arith) (pends item rest still (f .wait) (law .wants)) (omega (arith, pending (t .items)))
+
+    -- the rows that are added find a place
+    pub rows-fit : length (addedRows (f .added)) ≤ 32 - t .session .rows
+    unfolding due
+    rows-fit = omega (arith, law .rows, h .rows, weigh-at due refl (t .items) at)
 
     pub roomy-step : Roomy (applied t at f)
     unfolding waits uses space carries due applied sessionAfter
@@ -89,6 +95,7 @@ module _ (t : Part) (h : Roomy t) where
               );
           places = omega (arith, step-ledger space refl);
           tags = omega (arith, step-ledger carries refl);
+          begun = omega (arith, law .begun, h .begun);
           rows = omega (arith, step-ledger due refl, length-take (32 - t .session .rows) (addedRows (f .added)));
         }
 
@@ -107,5 +114,6 @@ module _ (t : Part) (h : Roomy t) where
         waits = λ v. omega (arith, put (uses v) refl, put (waits v) (not-that-wait v Free refl), h .waits v, no-waits v);
         places = omega (arith, put space refl);
         tags = omega (arith, put carries refl);
+        begun = h .begun;
         rows = omega (arith, put due refl, no-rows);
       }

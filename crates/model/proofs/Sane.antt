@@ -27,12 +27,12 @@ use Rattle.model.specs.Row.{held}
 use Rattle.model.specs.Rules.{rule}
 use Rattle.model.specs.State.{blankSlot, isNumbered, useUp, putItem, written, writtenCount, stageAfter, addedRows, placed, itemsAfter, sessionAfter, applied}
 use Rattle.model.specs.Requests.{Move, refuse, moved, isUnused, unused, spent, nextNumber, withItem, opening, openMove, stepped, stepAt, stepMove, sending, sendMove, closing, closeMove}
-use Rattle.model.specs.SetUp.{isPending}
+use Rattle.model.specs.SetUp.{isPending, itemAt}
 use Rattle.model.proofs.Checks.{checked-either}
 use Rattle.model.specs.Lists.{place, All}
 use Rattle.model.proofs.Lists.{all-set, all-get, all-append, all-take, all-replicate}
 use Rattle.model.proofs.Nodes.{Node, given-node, Routed}
-use Rattle.model.proofs.Weights.{itemAt, count, weigh, counted, free-is}
+use Rattle.model.proofs.Weights.{count, weigh, counted, free-is}
 use Rattle.model.proofs.SetUpWeights.{uses, space, carries, due, spare, pending}
 use Rattle.model.proofs.Balance.{rule-law}
 use Rattle.model.proofs.Pending.{Distinct, distinct-step, distinct-item}
@@ -178,7 +178,7 @@ module _ (t : Part) (h : Sane t) where
       let i = Wire c (bare c d (Disc c)) 32 in
       sane-item Stage.SettingUp c d i refl l hc hd
       (all-free (Named d) tt (t .items) (omega (arith, pending (t .items))))
-      (hc, bare-named c d (Disc c) hc hd, λ e. (hc, ne, refl, refl))
+      (hc, bare-named c d (Disc c) hc hd, λ e. (hc, ne, refl, refl), omega arith)
       (roomy-item t (h .roomy) Stage.SettingUp c d i (λ v. refl) refl (omega arith) (omega arith))
 
   pub sane-open : (n : Network) (c d : ℕ) → SaneMove (openMove n c d t)

@@ -1,26 +1,38 @@
 -- What a set-up can hold, in every state that calls reach. Assumes nothing.
-use mathlib.Core.Path.{_≡_, refl}
+use mathlib.Core.Path.{_≡_, refl, ap, _∙_}
 use mathlib.Core.Bool.{Bool, true, false}
-use mathlib.Core.List.{List, [], _∷_}
-use Prim.Native.Nat.{ℕ, _+_, _≤_}
+use mathlib.Core.List.{List, [], _∷_, _++_}
+use Prim.Native.Nat.{ℕ, _+_, _≤_, _<_}
 use native.Mathlib.Omega.{arith}
+use lib.Seq.{take-all}
+use Rattle.calculus.specs.declared.effect.Outcome.{Outcome}
+use Rattle.calculus.specs.declared.effect.Outcome.the-variants.{Wrote, WroteTwo, Lost, Denied, Opened, Delivered}
+use Rattle.calculus.specs.declared.effect.Wait.{Wait}
+use Rattle.calculus.specs.declared.effect.Wait.the-variants.{NoWait, Discovery, Establishment}
+use Rattle.calculus.specs.declared.network.Network.{Network}
 use Rattle.calculus.specs.declared.packet.Item.{Item}
 use Rattle.calculus.specs.declared.packet.Item.the-variants.{Free, Wire, Out, Up, In, Est, Auth, Grant, Ack, Dwait, Ewait}
 use Rattle.calculus.specs.declared.packet.Slot.{Slot}
+use Rattle.calculus.specs.declared.session.Row.{Row}
 use Rattle.calculus.specs.declared.state.Part.{Part}
 use Rattle.calculus.specs.declared.state.State.{State}
-use Rattle.model.specs.Row.{areNodes, usersOf}
-use Rattle.model.specs.Item.{isFree, isDataItem, howManyItems}
-use Rattle.model.specs.SetUp.{isPending, isSetUpItem, isGrant, isDiscOffWire, waitOf, Holds, SetUps}
-use Rattle.model.specs.State.{fresh, load}
+use Rattle.model.specs.Row.{held, areNodes, usersOf, stands}
+use Rattle.model.specs.Rules.{rule}
+use Rattle.model.specs.Item.{isFree, isWait, isDataItem, howManyItems}
+use Rattle.model.specs.SetUp.{isPending, itemAt, isSetUpItem, isGrant, isDiscOffWire, waitOf, hopsOf, itemsOf, waitItems, DropsNothing, Holds, SetUps}
+use Rattle.model.specs.State.{fresh, load, putItem, applied}
 use Rattle.model.specs.Calls.{after}
 use Rattle.model.specs.Requests.{unused}
-use Rattle.model.specs.Lists.{All}
+use Rattle.model.specs.Lists.{tally, All}
+use Rattle.model.proofs.Lists.{all-map}
 use Rattle.model.proofs.Checks.{either}
-use Rattle.model.proofs.Weights.{itemAt, count, counted, weigh-le, weigh-sum, weigh-at, free-or-pending}
+use Rattle.model.proofs.Weights.{count, counted, weighOut, weighWait, weigh-le, weigh-sum, weigh-at, weigh-put, free-or-pending}
 use Rattle.model.proofs.SetUpWeights.{uses, space, carries, due, spare, wanted, pends, set-up-space, pending, grant-due}
 use Rattle.model.proofs.Parts.{Numbered}
-use Rattle.model.proofs.Roomy.{Roomy}
+use Rattle.model.proofs.Moves.{held-applied}
+use Rattle.model.proofs.Balance.{rule-law}
+use Rattle.model.proofs.Nodes.{network-holds}
+use Rattle.model.proofs.Roomy.{Roomy, step-ledger, rows-fit}
 use Rattle.model.proofs.Named.{Named}
 use Rattle.model.proofs.Sane.{At}
 use Rattle.model.proofs.Counted.{Good, users-most}
@@ -54,6 +66,66 @@ few-users : (s : State) → Good s → (out : Bool) (a q : ℕ) → usersOf (s .
 unfolding usersOf
 few-users s g out a q = either (λ (n : ℕ). n ≤ 256) (areNodes a q) (λ e. rw e at (users-most s g out a q e)) (λ e. omega arith)
 
+-- ---- nothing is dropped
+
+weigh-items : (g : Item → Bool) (o : Outcome) → weighOut (count g) o ≡ tally g (itemsOf o)
+weigh-items g (Wrote i) = omega arith
+weigh-items g (WroteTwo i j) = omega arith
+weigh-items g (Lost k) = refl
+weigh-items g Denied = refl
+weigh-items g Opened = refl
+weigh-items g (Delivered tag) = refl
+
+weigh-waits : (g : Item → Bool) (w : Wait) → weighWait (count g) w ≡ tally g (waitItems w)
+weigh-waits g NoWait = refl
+weigh-waits g (Discovery a) = omega arith
+weigh-waits g (Establishment a e) = omega arith
+
+module _ (t : Part) (h : Roomy t) where
+  put-comes : (n : ℕ) (i : Item) (g : Item → Bool) → g Free ≡ false
+      → howManyItems g (putItem (t .items) n i) ≡ howManyItems g (t .items) + tally g (i ∷ [])
+  put-comes n i g z =
+      omega (
+        arith,
+        counted g (putItem (t .items) n i),
+        counted g (t .items),
+        weigh-put (count g) (rw z) (t .items) n i (omega (arith, pending (t .items), h .places, h .tags, h .whole .items)),
+      )
+
+  step-drops-nothing : (n : Network) (standing : ℕ → ℕ → Bool) (at : ℕ) → at < 16 → isWait (itemAt (t .items) at) ≡ false
+      → DropsNothing t at (rule n standing t (itemAt (t .items) at))
+  step-drops-nothing n standing at b w =
+      let i = itemAt (t .items) at in
+      let f = rule n standing t i in
+      let law = rule-law n standing t i in
+      record {
+        rows = held-applied t (h .whole) at f ∙ ap (λ (rs : List Row). held t ++ rs) (take-all _ _ (rows-fit t h at b w f law));
+        items = λ g z.
+            omega (
+              arith,
+              counted g (applied t at f .items),
+              counted g (t .items),
+              weigh-items g (f .outcome),
+              weigh-waits g (f .wait),
+              step-ledger t h at b w f law (count g) (rw z),
+            );
+      }
+
+-- ---- what is promised
+
+hops-few : (v : ℕ) (i : Item) → Named v i → hopsOf i ≤ 32
+hops-few v Free h = omega arith
+hops-few v (Wire a p x) h = h .3
+hops-few v (Out a p) h = omega arith
+hops-few v (Up a p) h = omega arith
+hops-few v (In a p q) h = omega arith
+hops-few v (Est a b e) h = omega arith
+hops-few v (Auth a q e side) h = omega arith
+hops-few v (Grant a q e side) h = omega arith
+hops-few v (Ack a e) h = omega arith
+hops-few v (Dwait a) h = omega arith
+hops-few v (Ewait a e) h = omega arith
+
 holds : (s : State) → Sound s → (u : ℕ) → Numbered u → Holds s (load s u)
 unfolding uses carries
 holds s sound u hu =
@@ -66,6 +138,8 @@ holds s sound u hu =
       dataItems = omega (arith, counted isDataItem l);
       itemPlaces = k .whole .items;
       freePlace = omega (arith, counted isFree l, pending l, free-or-pending l, k .whole .items);
+      written = put-comes t k;
+      stepped = step-drops-nothing t k (s .network) (stands (s .users) false);
       rowPlaces = k .whole .rows;
       rows = omega (
         arith,
@@ -74,6 +148,8 @@ holds s sound u hu =
         weigh-le (λ i. count isGrant i + count isGrant i) due grant-due l,
       );
       rowNodes = h .rows;
+      begun = k .begun;
+      hops = all-map (At (Named (t .session .server))) (At (λ i. hopsOf i ≤ 32)) (λ x. hops-few (t .session .server) (x .item)) l (h .items);
       waits = λ at.
           let i = itemAt l at in
           pends i l (λ v. omega (arith, weigh-at (uses v) refl l at, k .waits v)) (waitOf i) (wanted i);
@@ -86,4 +162,8 @@ holds s sound u hu =
     }
 
 pub set-ups : SetUps
-set-ups = record { holds = λ cs u e. holds (after fresh cs) (reached cs) u (numbered u e) }
+set-ups =
+    record {
+      network = λ cs. network-holds (after fresh cs .network) (reached cs .routed);
+      holds = λ cs u e. holds (after fresh cs) (reached cs) u (numbered u e);
+    }

@@ -19,14 +19,10 @@ use Rattle.calculus.specs.declared.packet.Slot.{Slot}
 use Rattle.model.specs.Lists.{place}
 use Rattle.model.specs.State.{blankSlot, useUp, putItem, written, writtenCount, itemsAfter}
 use Rattle.model.specs.Item.{isFree, waitIn, isSomeWait, isWait, sameWait, isThatWait, howManyItems}
-use Rattle.model.specs.SetUp.{isPending, Pends}
+use Rattle.model.specs.SetUp.{isPending, Pends, itemAt}
 use Rattle.model.proofs.Checks.{either, one, one-le}
 
 -- ---- weights
-
--- the item at a place
-abbrev pub itemAt : List Slot → ℕ → Item
-itemAt l at = getD l at blankSlot .item
 
 -- 1 where f holds
 abbrev pub count : (Item → Bool) → Item → ℕ

@@ -1,11 +1,16 @@
 -- What a set-up can hold, whatever the list of calls: no stated outcome for other tables is met. Proved in proofs/SetUp. Assumes nothing.
-use Prim.Native.Nat.{ℕ, _+_, _*_, _≤_}
+use Prim.Native.Nat.{ℕ, _+_, _*_, _≤_, _<_}
 use mathlib.Core.Path.{_≡_}
 use mathlib.Core.Bool.{Bool, true, false, cond, not, _&&_}
-use mathlib.Core.List.{List}
+use mathlib.Core.List.{List, [], _∷_, _++_}
 use lib.ListN.{length, getD}
+use Rattle.calculus.specs.declared.effect.Outcome.{Outcome}
+use Rattle.calculus.specs.declared.effect.Outcome.the-variants.{Wrote, WroteTwo, Lost, Denied, Opened, Delivered}
 use Rattle.calculus.specs.declared.effect.Wait.{Wait}
 use Rattle.calculus.specs.declared.effect.Wait.the-variants.{NoWait, Discovery, Establishment}
+use Rattle.calculus.specs.declared.effect.Effect.{Effect}
+use Rattle.calculus.specs.declared.network.Network.{Network}
+use Rattle.calculus.specs.declared.network.NextHop.the-variants.{Found}
 use Rattle.calculus.specs.declared.packet.Payload.{Payload}
 use Rattle.calculus.specs.declared.packet.Payload.the-variants.{Req, Rep, Disc, Done, Data}
 use Rattle.calculus.specs.declared.packet.Item.{Item}
@@ -16,10 +21,12 @@ use Rattle.calculus.specs.declared.state.State.{State}
 use Rattle.calculus.specs.Number.{within}
 use Rattle.forms.specs.Request.{isSession}
 use Rattle.model.specs.Lists.{tally, All, upFrom}
-use Rattle.model.specs.Row.{held, areNodes, usersOf}
-use Rattle.model.specs.State.{fresh, load, blankSlot, isNumbered}
+use Rattle.model.specs.Network.{given, isGateway, nextHop}
+use Rattle.model.specs.Row.{held, areNodes, usersOf, stands}
+use Rattle.model.specs.Rules.{rule}
+use Rattle.model.specs.State.{fresh, load, blankSlot, isNumbered, putItem, addedRows, applied}
 use Rattle.model.specs.Requests.{unused}
-use Rattle.model.specs.Item.{isFree, isThatWait, isDataItem, howManyItems}
+use Rattle.model.specs.Item.{isFree, isWait, isThatWait, isDataItem, howManyItems}
 use Rattle.model.specs.Calls.{Call, after}
 use Rattle.model.specs.Noninterference.{rowsNaming}
 
@@ -92,6 +99,53 @@ Pends l NoWait = Unit
 Pends l (Discovery a) = 1 ≤ howManyItems (isThatWait (Discovery a)) l
 Pends l (Establishment a e) = 1 ≤ howManyItems (isThatWait (Establishment a e)) l
 
+-- the hops that a packet on a wire has left
+abbrev pub hopsOf : Item → ℕ
+hopsOf Free = 0
+hopsOf (Wire a p h) = h
+hopsOf (Out a p) = 0
+hopsOf (Up a p) = 0
+hopsOf (In a p q) = 0
+hopsOf (Est a b e) = 0
+hopsOf (Auth a q e side) = 0
+hopsOf (Grant a q e side) = 0
+hopsOf (Ack a e) = 0
+hopsOf (Dwait a) = 0
+hopsOf (Ewait a e) = 0
+
+-- ---- what a step leaves
+
+-- the items that an outcome writes
+abbrev pub itemsOf : Outcome → List Item
+itemsOf (Wrote i) = i ∷ []
+itemsOf (WroteTwo i j) = i ∷ j ∷ []
+itemsOf (Lost k) = []
+itemsOf Denied = []
+itemsOf Opened = []
+itemsOf (Delivered tag) = []
+
+-- the item that is the wait, if there is one
+abbrev pub waitItems : Wait → List Item
+waitItems NoWait = []
+waitItems (Discovery a) = Dwait a ∷ []
+waitItems (Establishment a e) = Ewait a e ∷ []
+
+-- the item in a place, or Free past the places
+abbrev pub itemAt : List Slot → ℕ → Item
+itemAt l at = getD l at blankSlot .item
+
+-- the effect f of the item at place `at` drops nothing of the part t
+pub record DropsNothing (t : Part) (at : ℕ) (f : Effect) : Type 0 where
+  -- "Rows are kept in order of age": all that f adds stand behind those that stood
+  pub rows : held (applied t at f) ≡ held t ++ addedRows (f .added)
+  -- of items of any kind g as many pend as before, without the stepped item and the wait that are used up, and with all that are
+  -- written
+  pub items : (g : Item → Bool) → g Free ≡ false
+      → howManyItems g (applied t at f .items) + tally g (itemAt (t .items) at ∷ waitItems (f .wait))
+      ≡ howManyItems g (t .items) + tally g (itemsOf (f .outcome))
+
+-- ---- what every list of calls keeps
+
 -- of a session's part t of the state s
 pub record Holds (s : State) (t : Part) : Type 0 where
   -- "its set-up never holds over 3"
@@ -101,13 +155,21 @@ pub record Holds (s : State) (t : Part) : Type 0 where
   -- "16 places a session .. suffice": one is free; with the stepped item's own that makes two, enough for any rule
   pub itemPlaces : length (t .items) ≡ 16
   pub freePlace : 1 ≤ howManyItems isFree (t .items)
-  -- "and 32 rows": the two rows of a grant find a place
+  -- so no item is ever dropped: not the one that an open or a send writes, nor any of a step
+  pub written : (n : ℕ) (i : Item) (g : Item → Bool) → g Free ≡ false → howManyItems g (putItem (t .items) n i) ≡ howManyItems g (t .items) + tally g (i ∷ [])
+  pub stepped : (at : ℕ) → at < 16 → isWait (itemAt (t .items) at) ≡ false
+      → DropsNothing t at (rule (s .network) (stands (s .users) false) t (itemAt (t .items) at))
+  -- "and 32 rows": no more stand, and the two rows of a grant find a place
   pub rowPlaces : length (t .rows) ≡ 32
   pub rows : t .session .rows + 2 * howManyItems isGrant (t .items) ≤ 32
   -- every row names an association of two nodes
   pub rowNodes : All (λ r. areNodes (r .node) (r .peer) ≡ true) (held t)
+  -- "with 8 establishments begun, lost 6"
+  pub begun : t .session .begun ≤ 8
+  -- no packet on a wire has more than the 32 hops that it started with
+  pub hops : All (λ x. hopsOf (x .item) ≤ 32) (t .items)
   -- "No Rep lacks its ewait, no ack its dwait"
-  pub waits : (at : ℕ) → Pends (t .items) (waitOf (getD (t .items) at blankSlot .item))
+  pub waits : (at : ℕ) → Pends (t .items) (waitOf (itemAt (t .items) at))
   -- "no Disc reaches up"
   pub discs : howManyItems isDiscOffWire (t .items) ≡ 0
   -- "from 1 to 1,000,000"
@@ -120,5 +182,13 @@ pub record Holds (s : State) (t : Part) : Type 0 where
   pub users : (out : Bool) (a q : ℕ) → areNodes a q ≡ true → usersOf (s .users) out a q ≡ rowsNaming out a q s (upFrom 0 8)
   pub fewUsers : (out : Bool) (a q : ℕ) → usersOf (s .users) out a q ≤ 256
 
+-- of the network n
+pub record HoldsNetwork (n : Network) : Type 0 where
+  -- a route leads to a node that was given
+  pub routes : (a b next : ℕ) → nextHop n a b ≡ Found next → given n next ≡ true
+  -- a gateway is a node that was given
+  pub gateways : (a : ℕ) → isGateway n a ≡ true → given n a ≡ true
+
 pub record SetUps : Type 0 where
+  pub network : (cs : List Call) → HoldsNetwork (after fresh cs .network)
   pub holds : (cs : List Call) (u : ℕ) → isSession u ≡ true → Holds (after fresh cs) (load (after fresh cs) u)
