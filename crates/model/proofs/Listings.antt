@@ -11,8 +11,8 @@ use Rattle.model.specs.Rules.{wireRule, outRule, upRule, inRule, estRule
 use Rattle.model.specs.State.{load, store, useUp, putItem, itemsAfter, sessionAfter, applied}
 use Rattle.model.specs.Requests.{checked, nodeTurn, routeTurn, opening, openMove, stepped, stepAt, stepMove, sending, sendMove, closing, closeMove, changed, performed, peerLines, nodeLines, shown}
 use Rattle.model.specs.Calls.{requested, answered, replies, after}
-use Rattle.model.specs.Listings.{Listings}
+use Rattle.model.specs.ListingsHold.{Listings}
 
 pub listings-hold : Listings
 unfolding decimal digitsOf listText starts scan number list fields hasAt kindAt nodeAt plainForm formOf read answerText network.nodeAt nextHop covers hasAllNeeded howMany admits usersOf withUsers wireRule outRule upRule inRule estRule authRule grantRule ackRule rule load store useUp putItem itemsAfter sessionAfter applied checked nodeTurn routeTurn opening openMove stepped stepAt stepMove sending sendMove closing closeMove changed performed peerLines nodeLines shown requested answered replies after
-listings-hold = record { aToI = refl; lowestB = refl; lowestF = refl; further = refl; viewB = refl; stageF = refl }
+listings-hold = record { aToI = refl; lowestB = refl; lowestF = refl; further = refl; views = refl }

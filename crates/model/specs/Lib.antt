@@ -17,3 +17,4 @@ pub mod SetUp
 pub mod Refusals
 pub mod Show
 pub mod Listings
+pub mod ListingsHold

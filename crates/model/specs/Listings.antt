@@ -1,27 +1,12 @@
--- Document 01's listings A to I and further examples: each call's line, and what it writes. Proved in proofs/Listings. Assumes nothing.
+-- Document 01's listings A to I and further examples: each call's line, and what it writes. That they hold is stated in ListingsHold.
+-- Assumes nothing.
 use Prim.Native.Nat.{ℕ, _+_}
 use Prim.Native.Char.{code}
 use Prim.Native.String.{String}
-use mathlib.Core.Path.{_≡_}
-use mathlib.Core.Bool.{Bool, true, cond, _&&_, _||_}
+use mathlib.Core.Bool.{cond}
 use mathlib.Core.List.{List, [], _∷_, _++_, map}
-use lib.Dec.{ltb, eqb}
-use Rattle.calculus.specs.declared.packet.Slot.{Slot}
-use Rattle.calculus.specs.declared.request.Request as request
-use Rattle.calculus.specs.declared.request.Request.the-variants.{Node, Route, Open, Step, Send, Close, Show}
-use Rattle.calculus.specs.declared.state.State.{State}
-use Rattle.forms.specs.declared.read.Parsed.{Parsed}
-use Rattle.forms.specs.declared.read.Parsed.the-variants.{Asks, Refused}
+use lib.Dec.{eqb}
 use Rattle.forms.specs.Bytes.{bytes}
-use Rattle.forms.specs.Read.{read}
-use Rattle.forms.specs.Request.{asked}
-use Rattle.model.specs.Item.{isWait, vacant}
-use Rattle.model.specs.State.{fresh, load}
-use Rattle.model.specs.Calls.{Call, call, linesOf, replies, after}
-use Rattle.model.specs.Noninterference.{View, view}
-use Rattle.model.specs.Row.{outRow, inRow}
-use Rattle.calculus.specs.declared.session.Stage.{Stage}
-use mathlib.Core.Option.{some}
 
 -- a call's line, and the bytes that it writes
 pub record Exchange : Type 0 where
@@ -166,15 +151,27 @@ listings = listingA ∷ listingB ∷ listingC ∷ listingD ∷ listingE ∷ list
 
 -- ---- further examples
 
--- the first two establishments of a session whose path has gateways, then one more step
+-- the second establishment of a session whose path has gateways, and one more step;
+abbrev pub secondTunnel : Listing
+secondTunnel =
+    "(step u 22)" ⇒ "(made 23 24)" ∷ "(step u 24)" ⇒ "(made 25 26)" ∷ "(step u 25)" ⇒ "(made 27)" ∷ "(step u 27)" ⇒ "(made 28)"
+    ∷ "(step u 28)" ⇒ "(made 29)" ∷ "(step u 29)" ⇒ "(made 30)" ∷ "(step u 30)" ⇒ "(made 31)" ∷ "(step u 31)" ⇒ "(made 32)"
+    ∷ "(step u 32)" ⇒ "(made 33)" ∷ "(step u 33)" ⇒ "(made 34)" ∷ "(step u 34)" ⇒ "(made 35)" ∷ "(step u 35)" ⇒ "(made 36)"
+    ∷ "(step u 36)" ⇒ "(made 37)" ∷ "(step u 37)" ⇒ "(made 38)" ∷ "(step u 38)" ⇒ "(made 39)" ∷ "(step u 39)" ⇒ "(made 40)"
+    ∷ "(step u 40)" ⇒ "(made 41)" ∷ "(step u 41)" ⇒ "(made 42)"
+    ∷ []
+
+-- the first two;
 abbrev pub twoTunnels : Listing
-twoTunnels =
-    toAck
-    ++ "(step u 21)" ⇒ "(made 22)" ∷ "(step u 22)" ⇒ "(made 23 24)" ∷ "(step u 24)" ⇒ "(made 25 26)" ∷ "(step u 25)" ⇒ "(made 27)"
-    ∷ "(step u 27)" ⇒ "(made 28)" ∷ "(step u 28)" ⇒ "(made 29)" ∷ "(step u 29)" ⇒ "(made 30)" ∷ "(step u 30)" ⇒ "(made 31)"
-    ∷ "(step u 31)" ⇒ "(made 32)" ∷ "(step u 32)" ⇒ "(made 33)" ∷ "(step u 33)" ⇒ "(made 34)" ∷ "(step u 34)" ⇒ "(made 35)"
-    ∷ "(step u 35)" ⇒ "(made 36)" ∷ "(step u 36)" ⇒ "(made 37)" ∷ "(step u 37)" ⇒ "(made 38)" ∷ "(step u 38)" ⇒ "(made 39)"
-    ∷ "(step u 39)" ⇒ "(made 40)" ∷ "(step u 40)" ⇒ "(made 41)" ∷ "(step u 41)" ⇒ "(made 42)"
+twoTunnels = toAck ++ "(step u 21)" ⇒ "(made 22)" ∷ secondTunnel
+
+-- and the third, up to its ack
+abbrev pub thirdTunnel : Listing
+thirdTunnel =
+    "(step u 42)" ⇒ "(made 43 44)" ∷ "(step u 44)" ⇒ "(made 45 46)" ∷ "(step u 45)" ⇒ "(made 47)" ∷ "(step u 47)" ⇒ "(made 48)"
+    ∷ "(step u 48)" ⇒ "(made 49)" ∷ "(step u 49)" ⇒ "(made 50)" ∷ "(step u 50)" ⇒ "(made 51)" ∷ "(step u 51)" ⇒ "(made 52)"
+    ∷ "(step u 52)" ⇒ "(made 53)" ∷ "(step u 53)" ⇒ "(made 54)" ∷ "(step u 54)" ⇒ "(made 55)" ∷ "(step u 55)" ⇒ "(made 56)"
+    ∷ "(step u 56)" ⇒ "(made 57)" ∷ "(step u 57)" ⇒ "(made 58)" ∷ "(step u 58)" ⇒ "(made 59)" ∷ "(step u 59)" ⇒ "(made 60)"
     ∷ []
 
 -- data goes through one tunnel to a gateway, and through the next to the server
@@ -190,20 +187,76 @@ throughGateway =
     ∷ "(step 1 57)" ⇒ "(made 58)" ∷ "(step 1 58)" ⇒ "(made 59)" ∷ "(step 1 59)" ⇒ "(made 60)" ∷ "(step 1 60)" ⇒ "(delivered 77)"
     ∷ []
 
--- "the newest": the routes send Disc back and forth between gateways 2 and 3, so that node 2 is initiator with peer 1 and then
--- with peer 3. Both its in rows match the data from node 1, and the older one would let it pass
-abbrev pub newestOfTwoRows : Listing
-newestOfTwoRows =
+-- routes that send a Disc from 1 to 4 back and forth between gateways 2 and 3
+abbrev pub circle : Listing
+circle =
     "(node 1 host (has) (needs))" ⇒ "(ok)" ∷ "(node 2 gate (has) (needs))" ⇒ "(ok)" ∷ "(node 3 gate (has) (needs))" ⇒ "(ok)"
     ∷ "(node 4 host (has) (needs))" ⇒ "(ok)" ∷ "(route 1 2 2)" ⇒ "(ok)" ∷ "(route 1 4 2)" ⇒ "(ok)" ∷ "(route 2 1 1)" ⇒ "(ok)"
     ∷ "(route 2 3 3)" ⇒ "(ok)" ∷ "(route 2 4 3)" ⇒ "(ok)" ∷ "(route 3 2 2)" ⇒ "(ok)" ∷ "(route 3 4 2)" ⇒ "(ok)"
-    ∷ "(open 1 1 4)" ⇒ "(made 1)" ∷ session 1 twoTunnels
-    ++ "(step 1 42)" ⇒ "(made 43 44)" ∷ "(step 1 44)" ⇒ "(made 45 46)" ∷ "(step 1 45)" ⇒ "(made 47)" ∷ "(step 1 47)" ⇒ "(made 48)"
-    ∷ "(step 1 48)" ⇒ "(made 49)" ∷ "(step 1 49)" ⇒ "(made 50)" ∷ "(step 1 50)" ⇒ "(made 51)" ∷ "(step 1 51)" ⇒ "(made 52)"
-    ∷ "(step 1 52)" ⇒ "(made 53)" ∷ "(step 1 53)" ⇒ "(made 54)" ∷ "(step 1 54)" ⇒ "(made 55)" ∷ "(step 1 55)" ⇒ "(made 56)"
-    ∷ "(step 1 56)" ⇒ "(made 57)" ∷ "(step 1 57)" ⇒ "(made 58)" ∷ "(step 1 58)" ⇒ "(made 59)" ∷ "(step 1 59)" ⇒ "(made 60)"
-    ∷ "(send 1 0 77)" ⇒ "(made 61)" ∷ "(step 1 61)" ⇒ "(made 62)" ∷ "(step 1 62)" ⇒ "(made 63)" ∷ "(step 1 63)" ⇒ "(made 64)"
+    ∷ []
+
+-- "the newest": on the circle node 2 is initiator with peer 1 and then with peer 3. Both its in rows match the data from node 1,
+-- and the older one would let it pass
+abbrev pub newestOfTwoRows : Listing
+newestOfTwoRows =
+    circle ++ "(open 1 1 4)" ⇒ "(made 1)" ∷ session 1 twoTunnels
+    ++ session 1 thirdTunnel
+    ++ "(send 1 0 77)" ⇒ "(made 61)" ∷ "(step 1 61)" ⇒ "(made 62)" ∷ "(step 1 62)" ⇒ "(made 63)" ∷ "(step 1 63)" ⇒ "(made 64)"
     ∷ "(step 1 64)" ⇒ "(made 65)" ∷ "(step 1 65)" ⇒ "(lost 5)"
+    ∷ []
+
+-- "with 8 establishments begun, lost 6": on the circle the Disc comes to a ninth
+abbrev pub exhausted : Listing
+exhausted =
+    circle ++ "(open 1 1 4)" ⇒ "(made 1)" ∷ session 1 twoTunnels ++ session 1 thirdTunnel
+    ++ "(step 1 60)" ⇒ "(made 61)" ∷ "(step 1 61)" ⇒ "(made 62)" ∷ "(step 1 62)" ⇒ "(made 63 64)" ∷ "(step 1 64)" ⇒ "(made 65 66)"
+    ∷ "(step 1 65)" ⇒ "(made 67)" ∷ "(step 1 67)" ⇒ "(made 68)" ∷ "(step 1 68)" ⇒ "(made 69)" ∷ "(step 1 69)" ⇒ "(made 70)"
+    ∷ "(step 1 70)" ⇒ "(made 71)" ∷ "(step 1 71)" ⇒ "(made 72)" ∷ "(step 1 72)" ⇒ "(made 73)" ∷ "(step 1 73)" ⇒ "(made 74)"
+    ∷ "(step 1 74)" ⇒ "(made 75)" ∷ "(step 1 75)" ⇒ "(made 76)" ∷ "(step 1 76)" ⇒ "(made 77)" ∷ "(step 1 77)" ⇒ "(made 78)"
+    ∷ "(step 1 78)" ⇒ "(made 79)" ∷ "(step 1 79)" ⇒ "(made 80)" ∷ "(step 1 80)" ⇒ "(made 81)" ∷ "(step 1 81)" ⇒ "(made 82)"
+    ∷ "(step 1 82)" ⇒ "(made 83 84)" ∷ "(step 1 84)" ⇒ "(made 85 86)" ∷ "(step 1 85)" ⇒ "(made 87)" ∷ "(step 1 87)" ⇒ "(made 88)"
+    ∷ "(step 1 88)" ⇒ "(made 89)" ∷ "(step 1 89)" ⇒ "(made 90)" ∷ "(step 1 90)" ⇒ "(made 91)" ∷ "(step 1 91)" ⇒ "(made 92)"
+    ∷ "(step 1 92)" ⇒ "(made 93)" ∷ "(step 1 93)" ⇒ "(made 94)" ∷ "(step 1 94)" ⇒ "(made 95)" ∷ "(step 1 95)" ⇒ "(made 96)"
+    ∷ "(step 1 96)" ⇒ "(made 97)" ∷ "(step 1 97)" ⇒ "(made 98)" ∷ "(step 1 98)" ⇒ "(made 99)" ∷ "(step 1 99)" ⇒ "(made 100)"
+    ∷ "(step 1 100)" ⇒ "(made 101)" ∷ "(step 1 101)" ⇒ "(made 102)" ∷ "(step 1 102)" ⇒ "(made 103 104)" ∷ "(step 1 104)" ⇒ "(made 105 106)"
+    ∷ "(step 1 105)" ⇒ "(made 107)" ∷ "(step 1 107)" ⇒ "(made 108)" ∷ "(step 1 108)" ⇒ "(made 109)" ∷ "(step 1 109)" ⇒ "(made 110)"
+    ∷ "(step 1 110)" ⇒ "(made 111)" ∷ "(step 1 111)" ⇒ "(made 112)" ∷ "(step 1 112)" ⇒ "(made 113)" ∷ "(step 1 113)" ⇒ "(made 114)"
+    ∷ "(step 1 114)" ⇒ "(made 115)" ∷ "(step 1 115)" ⇒ "(made 116)" ∷ "(step 1 116)" ⇒ "(made 117)" ∷ "(step 1 117)" ⇒ "(made 118)"
+    ∷ "(step 1 118)" ⇒ "(made 119)" ∷ "(step 1 119)" ⇒ "(made 120)" ∷ "(step 1 120)" ⇒ "(made 121)" ∷ "(step 1 121)" ⇒ "(made 122)"
+    ∷ "(step 1 122)" ⇒ "(made 123 124)" ∷ "(step 1 124)" ⇒ "(made 125 126)" ∷ "(step 1 125)" ⇒ "(made 127)" ∷ "(step 1 127)" ⇒ "(made 128)"
+    ∷ "(step 1 128)" ⇒ "(made 129)" ∷ "(step 1 129)" ⇒ "(made 130)" ∷ "(step 1 130)" ⇒ "(made 131)" ∷ "(step 1 131)" ⇒ "(made 132)"
+    ∷ "(step 1 132)" ⇒ "(made 133)" ∷ "(step 1 133)" ⇒ "(made 134)" ∷ "(step 1 134)" ⇒ "(made 135)" ∷ "(step 1 135)" ⇒ "(made 136)"
+    ∷ "(step 1 136)" ⇒ "(made 137)" ∷ "(step 1 137)" ⇒ "(made 138)" ∷ "(step 1 138)" ⇒ "(made 139)" ∷ "(step 1 139)" ⇒ "(made 140)"
+    ∷ "(step 1 140)" ⇒ "(made 141)" ∷ "(step 1 141)" ⇒ "(made 142)" ∷ "(step 1 142)" ⇒ "(made 143 144)" ∷ "(step 1 144)" ⇒ "(made 145 146)"
+    ∷ "(step 1 145)" ⇒ "(made 147)" ∷ "(step 1 147)" ⇒ "(made 148)" ∷ "(step 1 148)" ⇒ "(made 149)" ∷ "(step 1 149)" ⇒ "(made 150)"
+    ∷ "(step 1 150)" ⇒ "(made 151)" ∷ "(step 1 151)" ⇒ "(made 152)" ∷ "(step 1 152)" ⇒ "(made 153)" ∷ "(step 1 153)" ⇒ "(made 154)"
+    ∷ "(step 1 154)" ⇒ "(made 155)" ∷ "(step 1 155)" ⇒ "(made 156)" ∷ "(step 1 156)" ⇒ "(made 157)" ∷ "(step 1 157)" ⇒ "(made 158)"
+    ∷ "(step 1 158)" ⇒ "(made 159)" ∷ "(step 1 159)" ⇒ "(made 160)" ∷ "(step 1 160)" ⇒ "(made 161)" ∷ "(step 1 161)" ⇒ "(made 162)"
+    ∷ "(step 1 162)" ⇒ "(lost 6)"
+    ∷ []
+
+-- a session from 1 to 4 through gateways 2 and 3: its first tunnel, and the Disc that its ack wrote, which is item 22 at node 3
+abbrev pub firstOfThree : Listing
+firstOfThree =
+    "(node 1 host (has) (needs))" ⇒ "(ok)" ∷ "(node 2 gate (has) (needs))" ⇒ "(ok)" ∷ "(node 3 gate (has) (needs))" ⇒ "(ok)" ∷ "(node 4 host (has) (needs))" ⇒ "(ok)"
+    ∷ "(route 1 2 2)" ⇒ "(ok)" ∷ "(route 1 4 2)" ⇒ "(ok)" ∷ "(route 2 1 1)" ⇒ "(ok)" ∷ "(route 2 3 3)" ⇒ "(ok)"
+    ∷ "(route 2 4 3)" ⇒ "(ok)" ∷ "(route 3 2 2)" ⇒ "(ok)" ∷ "(route 3 4 4)" ⇒ "(ok)" ∷ "(route 4 3 3)" ⇒ "(ok)"
+    ∷ "(route 4 1 3)" ⇒ "(ok)" ∷ "(route 3 1 2)" ⇒ "(ok)"
+    ∷ "(open 1 1 4)" ⇒ "(made 1)" ∷ session 1 toAck
+    ++ "(step 1 21)" ⇒ "(made 22)" ∷ []
+
+-- then data in that tunnel
+abbrev pub dataInFirstOfThree : Listing
+dataInFirstOfThree = firstOfThree ++ "(send 1 0 77)" ⇒ "(made 23)" ∷ "(step 1 23)" ⇒ "(made 24)" ∷ "(step 1 24)" ⇒ "(made 25)" ∷ []
+
+-- or the other two tunnels, and Done back through all three
+abbrev pub threeTunnels : Listing
+threeTunnels =
+    firstOfThree ++ session 1 secondTunnel ++ session 1 thirdTunnel
+    ++ "(step 1 60)" ⇒ "(made 61)" ∷ "(step 1 61)" ⇒ "(made 62)" ∷ "(step 1 62)" ⇒ "(made 63)" ∷ "(step 1 63)" ⇒ "(made 64)"
+    ∷ "(step 1 64)" ⇒ "(made 65)" ∷ "(step 1 65)" ⇒ "(made 66)" ∷ "(step 1 66)" ⇒ "(made 67)" ∷ "(step 1 67)" ⇒ "(made 68)"
+    ∷ "(step 1 68)" ⇒ "(made 69)" ∷ "(step 1 69)" ⇒ "(made 70)" ∷ "(step 1 70)" ⇒ "(made 71)" ∷ "(step 1 71)" ⇒ "(made 72)"
+    ∷ "(step 1 72)" ⇒ "(made 73)" ∷ "(step 1 73)" ⇒ "(made 74)" ∷ "(step 1 74)" ⇒ "(made 75)" ∷ "(step 1 75)" ⇒ "(opened)"
     ∷ []
 
 -- data from the server, "with 1"
@@ -231,7 +284,8 @@ refusalsInOrder =
     ∷ "(open 1 1 3)" ⇒ "(no 4)" ∷ "(route 1 3 2)" ⇒ "(no 4)" ∷ "(node 1 host (has) (needs))" ⇒ "(ok)"
     ∷ "(node 1 gate (has) (needs))" ⇒ "(no 3)" ∷ "(node 2 gate (has) (needs))" ⇒ "(ok)"
     ∷ "(node 3 host (has) (needs))" ⇒ "(ok)" ∷ "(route 1 1 2)" ⇒ "(no 8)" ∷ "(route 1 3 1)" ⇒ "(no 8)"
-    ∷ "(route 1 3 2)" ⇒ "(ok)" ∷ "(route 1 3 3)" ⇒ "(no 3)" ∷ "(open 1 2 2)" ⇒ "(no 8)" ∷ "(open 1 1 2)" ⇒ "(no 9)"
+    ∷ "(route 9 9 9)" ⇒ "(no 4)" ∷ "(route 1 3 9)" ⇒ "(no 4)"
+    ∷ "(route 1 3 2)" ⇒ "(ok)" ∷ "(route 1 3 3)" ⇒ "(no 3)" ∷ "(route 1 3 1)" ⇒ "(no 8)" ∷ "(open 1 2 2)" ⇒ "(no 8)" ∷ "(open 1 1 2)" ⇒ "(no 9)"
     ∷ "(step 1 1)" ⇒ "(no 7)" ∷ "(send 1 0 0)" ⇒ "(no 7)" ∷ "(close 1)" ⇒ "(no 7)" ∷ "(open 1 1 3)" ⇒ "(made 1)"
     ∷ "(open 1 4 4)" ⇒ "(no 6)" ∷ "(node 1 host (has) (needs))" ⇒ "(no 5)" ∷ "(route 1 9 1)" ⇒ "(no 5)"
     ∷ "(step 1 2)" ⇒ "(no 11)" ∷ "(step 1 1)" ⇒ "(made 2)" ∷ "(step 1 2)" ⇒ "(made 3 4)" ∷ "(step 1 3)" ⇒ "(no 12)"
@@ -243,56 +297,4 @@ refusalsInOrder =
     ∷ []
 
 abbrev pub furtherExamples : List Listing
-furtherExamples = throughGateway ∷ newestOfTwoRows ∷ serverSends ∷ lossesAtAGateway ∷ refusalsInOrder ∷ []
-
--- ---- the promise
-
--- the call, with a lent output of 65,536 bytes
-abbrev pub callOf : Exchange → Call
-callOf e = record { line = e .line; size = 65536 }
-
--- what each call writes, from a fresh state on
-abbrev pub outputs : Listing → List (List ℕ)
-outputs l = map linesOf (replies fresh (map callOf l))
-
--- what each is to write
-abbrev pub expected : Listing → List (List ℕ)
-expected l = map (λ e. e .written) l
-
--- the lower of two numbers, where 0 is none
-abbrev pub lower : ℕ → ℕ → ℕ
-lower n m = cond (eqb m 0) n (cond (eqb n 0) m (cond (ltb n m) n m))
-
--- "the lowest item that isn't a wait", or 0
-abbrev pub lowest : List Slot → ℕ
-lowest [] = 0
-lowest (x ∷ l) = lower (cond (vacant x || isWait (x .item)) 0 (x .number .0)) (lowest l)
-
--- a step is one of the session's lowest item
-abbrev pub stepsLowest : State → request.Request → Bool
-stepsLowest s (Node a k) = true
-stepsLowest s (Route a b n) = true
-stepsLowest s (Open u c d) = true
-stepsLowest s (Step u k) = eqb (k .0) (lowest (load s (u .0) .items))
-stepsLowest s (Send u w tag) = true
-stepsLowest s (Close u) = true
-stepsLowest s Show = true
-
-abbrev pub parsedLowest : State → Parsed → Bool
-parsedLowest s (Asks q) = stepsLowest s q
-parsedLowest s (Refused r) = true
-
-abbrev pub onlyLowest : State → Listing → Bool
-onlyLowest s [] = true
-onlyLowest s (e ∷ l) = parsedLowest s (asked (read (e .line)) .parsed) && onlyLowest (call s (callOf e) .state) l
-
-pub record Listings : Type 0 where
-  -- "A to I are checked inside the logic as one list under one theorem"
-  pub aToI : map outputs listings ≡ map expected listings
-  -- B and F: "then only stepping the lowest item that isn't a wait"
-  pub lowestB : onlyLowest fresh listingB ≡ true
-  pub lowestF : onlyLowest fresh listingF ≡ true
-  pub further : map outputs furtherExamples ≡ map expected furtherExamples
-  -- what session 1 holds at the end of B
-  pub viewB : view (after fresh (map callOf listingB)) 1 ≡ record { stage = Stage.Open; ends = some (1, 2); items = []; rows = outRow 1 1 2 2 1 ∷ inRow 1 2 1 2 1 ∷ outRow 2 2 1 1 1 ∷ inRow 2 1 2 1 1 ∷ []; begun = 1; last = 25 }
-  pub stageF : view (after fresh (map callOf listingF)) 1 .stage ≡ Stage.Denied
+furtherExamples = throughGateway ∷ newestOfTwoRows ∷ exhausted ∷ dataInFirstOfThree ∷ threeTunnels ∷ serverSends ∷ lossesAtAGateway ∷ refusalsInOrder ∷ []

@@ -33,7 +33,7 @@ abbrev pub sameWay : Bool → Bool → Bool
 sameWay true y = y
 sameWay false y = not y
 
--- "for Req(e) and Rep(e), rows of that same e are skipped"
+-- "for Req(e) and Rep(e), rows of that same e are skipped". For Req(e) no list of calls tells it: it is gone when they come
 abbrev pub skips : Payload → ℕ → Bool
 skips (Req e) f = eqb e f
 skips (Rep e) f = eqb e f
@@ -41,7 +41,8 @@ skips (Disc p) f = false
 skips Done f = false
 skips (Data tag) f = false
 
--- the row is at the node, in the direction, its filter equals the packet's source and destination, and it is not skipped
+-- the row is at the node, in the direction, its filter equals the packet's source and destination, and it is not skipped. No list of
+-- calls tells either half of the filter from the whole: it is (c, d) or (d, c), and Req and Rep meet rows of their own e alone
 abbrev pub fits : Bool → ℕ → Packet → Row → Bool
 fits out a p r =
     sameWay (r .out) out

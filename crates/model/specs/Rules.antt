@@ -87,7 +87,8 @@ abbrev pub onward : NextHop → Packet → ℕ → Effect
 onward Missing p hops = lost NoRoute
 onward (Found next) p hops = writes (Wire next p (hops - 1))
 
--- wire(a, packet, h): "the first that fits"
+-- wire(a, packet, h): "the first that fits". No list of calls tells the order of lost 1 and lost 2: bare Data or Done is lost at the
+-- first gateway, and with one of the 32 nodes a gateway it comes there before its 32 hops are over, or never
 unfoldable pub wireRule : Bool → NextHop → Session → ℕ → Packet → ℕ → Effect
 wireRule gateway next s a p h =
     cond (discovers gateway (s .server) a (p .payload))
@@ -132,7 +133,8 @@ sameVia Untunnelled (Peer q) = false
 sameVia (Peer q) Untunnelled = false
 sameVia (Peer q) (Peer r) = eqb q r
 
--- "the matching in row's peer must be q, or with no row q must be none"
+-- "the matching in row's peer must be q, or with no row q must be none". With no row no list of calls comes to a q: the rows that
+-- send a packet into a tunnel and those that match it at the tunnel's end come with one establishment
 abbrev pub agrees : List Row → ℕ → Packet → Via → Bool
 agrees rows a p q = sameVia (newest rows false a p) q
 

@@ -1,0 +1,218 @@
+-- The listings hold: what each call writes, and what session 1 holds at some moments of them. Proved in proofs/Listings. Assumes nothing.
+use Prim.Native.Nat.{ℕ}
+use mathlib.Core.Path.{_≡_}
+use mathlib.Core.Bool.{Bool, true, false, cond, _&&_, _||_}
+use mathlib.Core.List.{List, [], _∷_, map}
+use mathlib.Core.Option.{some}
+use lib.Dec.{ltb, eqb}
+use lib.ListN.{take}
+use Rattle.calculus.specs.declared.packet.Header.{Header}
+use Rattle.calculus.specs.declared.packet.Header.the-variants.{Bare, Tunnel}
+use Rattle.calculus.specs.declared.packet.Item.{Item}
+use Rattle.calculus.specs.declared.packet.Item.the-variants.{Wire, Out, Ack, Dwait, Ewait}
+use Rattle.calculus.specs.declared.packet.Packet.{Packet}
+use Rattle.calculus.specs.declared.packet.Payload.{Payload}
+use Rattle.calculus.specs.declared.packet.Payload.the-variants.{Rep, Disc, Data}
+use Rattle.calculus.specs.declared.packet.Slot.{Slot}
+use Rattle.calculus.specs.declared.request.Request as request
+use Rattle.calculus.specs.declared.request.Request.the-variants.{Node, Route, Open, Step, Send, Close, Show}
+use Rattle.calculus.specs.declared.session.Row.{Row}
+use Rattle.calculus.specs.declared.session.Stage.{Stage}
+use Rattle.calculus.specs.declared.state.State.{State}
+use Rattle.forms.specs.declared.read.Parsed.{Parsed}
+use Rattle.forms.specs.declared.read.Parsed.the-variants.{Asks, Refused}
+use Rattle.forms.specs.Read.{read}
+use Rattle.forms.specs.Request.{asked}
+use Rattle.model.specs.Item.{isWait, vacant}
+use Rattle.model.specs.State.{fresh, load}
+use Rattle.model.specs.Calls.{Call, call, linesOf, after, replies}
+use Rattle.model.specs.Texts.{roomyCall}
+use Rattle.model.specs.Noninterference.{View, view}
+use Rattle.model.specs.Listings.{Exchange, Listing, listings, listingB, listingC, listingF, dataInFirstOfThree, threeTunnels, furtherExamples}
+
+-- ---- what is written
+
+abbrev pub callOf : Exchange → Call
+callOf e = roomyCall (e .line)
+
+-- what each call writes, from a fresh state on
+abbrev pub outputs : Listing → List (List ℕ)
+outputs l = map linesOf (replies fresh (map callOf l))
+
+-- what each is to write
+abbrev pub expected : Listing → List (List ℕ)
+expected l = map (λ e. e .written) l
+
+-- ---- the lowest item
+
+-- the lower of two numbers, where 0 is none
+abbrev pub lower : ℕ → ℕ → ℕ
+lower n m = cond (eqb m 0) n (cond (eqb n 0) m (cond (ltb n m) n m))
+
+-- "the lowest item that isn't a wait", or 0
+abbrev pub lowest : List Slot → ℕ
+lowest [] = 0
+lowest (x ∷ l) = lower (cond (vacant x || isWait (x .item)) 0 (x .number .0)) (lowest l)
+
+-- a step is one of the session's lowest item
+abbrev pub stepsLowest : State → request.Request → Bool
+stepsLowest s (Node a k) = true
+stepsLowest s (Route a b n) = true
+stepsLowest s (Open u c d) = true
+stepsLowest s (Step u k) = eqb (k .0) (lowest (load s (u .0) .items))
+stepsLowest s (Send u w tag) = true
+stepsLowest s (Close u) = true
+stepsLowest s Show = true
+
+abbrev pub parsedLowest : State → Parsed → Bool
+parsedLowest s (Asks q) = stepsLowest s q
+parsedLowest s (Refused r) = true
+
+abbrev pub onlyLowest : State → Listing → Bool
+onlyLowest s [] = true
+onlyLowest s (e ∷ l) = parsedLowest s (asked (read (e .line)) .parsed) && onlyLowest (call s (callOf e) .state) l
+
+-- ---- what session 1 holds
+
+-- the calls of a listing, and what session 1 sees of itself behind them
+pub record Moment : Type 0 where
+  pub calls : Listing
+  pub sees : View
+
+abbrev pub seenBehind : Listing → View
+seenBehind l = view (after fresh (map callOf l)) 1
+
+-- an item with its number, a packet and a row, as document 01 lists their parts
+abbrev pub item : ℕ → Item → Slot
+item k i = record { number = record { 0 = k }; item = i }
+
+abbrev pub packet : ℕ → ℕ → Payload → Header → Packet
+packet from to y h = record { source = from; destination = to; payload = y; header = h }
+
+abbrev pub header : ℕ → ℕ → ℕ → Header
+header from to spi = Tunnel from to (record { 0 = spi })
+
+abbrev pub row : ℕ → Bool → ℕ → ℕ → ℕ → ℕ → Row
+row a out from to q e = record { node = a; out = out; source = from; destination = to; peer = q; establishment = e }
+
+-- B before its ack is stepped: the ack names its establishment
+abbrev pub beforeAck : Moment
+beforeAck =
+    record {
+      calls = take 22 listingB;
+      sees = record {
+        stage = Stage.SettingUp;
+        ends = some (1, 2);
+        items = item 3 (Dwait 2) ∷ item 20 (Ack 2 1) ∷ [];
+        rows = row 1 true 1 2 2 1 ∷ row 1 false 2 1 2 1 ∷ row 2 true 2 1 1 1 ∷ row 2 false 1 2 1 1 ∷ [];
+        begun = 1;
+        last = 20;
+      };
+    }
+
+abbrev pub endOfB : Moment
+endOfB =
+    record {
+      calls = listingB;
+      sees = record {
+        stage = Stage.Open;
+        ends = some (1, 2);
+        items = [];
+        rows = row 1 true 1 2 2 1 ∷ row 1 false 2 1 2 1 ∷ row 2 true 2 1 1 1 ∷ row 2 false 1 2 1 1 ∷ [];
+        begun = 1;
+        last = 25;
+      };
+    }
+
+abbrev pub endOfF : Moment
+endOfF =
+    record {
+      calls = listingF;
+      sees = record {
+        stage = Stage.Denied;
+        ends = some (1, 2);
+        items = item 3 (Dwait 2) ∷ item 6 (Ewait 2 1) ∷ [];
+        rows = [];
+        begun = 1;
+        last = 11;
+      };
+    }
+
+-- C after step 14: the data is on the wire with its header, which has the SPI of what 2 receives from 1
+abbrev pub middleOfC : Moment
+middleOfC =
+    record {
+      calls = take 17 listingC;
+      sees = record {
+        stage = Stage.SettingUp;
+        ends = some (1, 2);
+        items = item 3 (Dwait 2) ∷ item 13 (Out 1 (packet 1 2 (Rep 1) Bare)) ∷ item 6 (Ewait 2 1)
+            ∷ item 15 (Wire 1 (packet 1 2 (Data 77) (header 1 2 288)) 32) ∷ [];
+        rows = row 1 true 1 2 2 1 ∷ row 1 false 2 1 2 1 ∷ [];
+        begun = 1;
+        last = 15;
+      };
+    }
+
+-- C at its end: a lost packet leaves the stage
+abbrev pub endOfC : Moment
+endOfC =
+    record {
+      calls = listingC;
+      sees = record {
+        stage = Stage.SettingUp;
+        ends = some (1, 2);
+        items = item 3 (Dwait 2) ∷ item 13 (Out 1 (packet 1 2 (Rep 1) Bare)) ∷ item 6 (Ewait 2 1) ∷ [];
+        rows = row 1 true 1 2 2 1 ∷ row 1 false 2 1 2 1 ∷ [];
+        begun = 1;
+        last = 17;
+      };
+    }
+
+-- with two gateways, after the first ack: its Disc, and data in the first tunnel, have each made one of their 32 hops
+abbrev pub discOfAnAck : Moment
+discOfAnAck =
+    record {
+      calls = dataInFirstOfThree;
+      sees = record {
+        stage = Stage.SettingUp;
+        ends = some (1, 4);
+        items = item 22 (Wire 3 (packet 1 4 (Disc 2) Bare) 31) ∷ item 25 (Wire 2 (packet 1 4 (Data 77) (header 1 2 288)) 31) ∷ [];
+        rows = row 1 true 1 4 2 1 ∷ row 1 false 4 1 2 1 ∷ row 2 true 4 1 1 1 ∷ row 2 false 1 4 1 1 ∷ [];
+        begun = 1;
+        last = 25;
+      };
+    }
+
+-- and at the end, with three tunnels
+abbrev pub endOfThreeTunnels : Moment
+endOfThreeTunnels =
+    record {
+      calls = threeTunnels;
+      sees = record {
+        stage = Stage.Open;
+        ends = some (1, 4);
+        items = [];
+        rows = row 1 true 1 4 2 1 ∷ row 1 false 4 1 2 1 ∷ row 2 true 4 1 1 1 ∷ row 2 false 1 4 1 1
+            ∷ row 2 true 1 4 3 2 ∷ row 2 false 4 1 3 2 ∷ row 3 true 4 1 2 2 ∷ row 3 false 1 4 2 2
+            ∷ row 3 true 1 4 4 3 ∷ row 3 false 4 1 4 3 ∷ row 4 true 4 1 3 3 ∷ row 4 false 1 4 3 3
+            ∷ [];
+        begun = 3;
+        last = 75;
+      };
+    }
+
+abbrev pub moments : List Moment
+moments = beforeAck ∷ endOfB ∷ endOfF ∷ middleOfC ∷ endOfC ∷ discOfAnAck ∷ endOfThreeTunnels ∷ []
+
+-- ---- the promise
+
+pub record Listings : Type 0 where
+  -- "A to I are checked inside the logic as one list under one theorem"
+  pub aToI : map outputs listings ≡ map expected listings
+  -- B and F: "then only stepping the lowest item that isn't a wait"
+  pub lowestB : onlyLowest fresh listingB ≡ true
+  pub lowestF : onlyLowest fresh listingF ≡ true
+  pub further : map outputs furtherExamples ≡ map expected furtherExamples
+  -- what no answer shows: stages, ends, items with their contents, rows in their order of age
+  pub views : map (λ m. seenBehind (m .calls)) moments ≡ map (λ m. m .sees) moments
