@@ -16,6 +16,27 @@ pub fn is_node(n: u64) -> bool
     within(n, 1, 32)
 }
 
+// Whether `n` is a session's number.
+pub fn is_session(n: u64) -> bool
+    ensures { λ r. ⌜ r ≡ spec.isSession n ⌝ }
+{
+    within(n, 1, 8)
+}
+
+// Whether `n` is an item's number.
+pub fn is_item(n: u64) -> bool
+    ensures { λ r. ⌜ r ≡ spec.isItem n ⌝ }
+{
+    within(n, 1, 1000000)
+}
+
+// Whether `n` is the tag of a Data.
+pub fn is_tag(n: u64) -> bool
+    ensures { λ r. ⌜ r ≡ spec.isTag n ⌝ }
+{
+    within(n, 0, 4294967295)
+}
+
 // A set-up session, 1 to 8.
 pub struct SessionNumber(pub u8);
 

@@ -2,11 +2,26 @@
 use crate::network::Kind;
 use crate::number::ItemNumber;
 use crate::number::SessionNumber;
+ghost use mathlib.Core.Path.{_≡_};
+ghost use Rattle.calculus.specs.Number.{senderOf};
 
 // Which end of a session sends.
 pub enum Sender {
     Client,
     Server,
+}
+
+impl Sender {
+    // The end that a number names: 0 the client, 1 the server.
+    pub fn numbered(which: u64) -> Sender
+        ensures { λ r. ⌜ r ≡ senderOf which ⌝ }
+    {
+        if which == 0 {
+            Sender::Client
+        } else {
+            Sender::Server
+        }
+    }
 }
 
 // A node's credentials stand beside its request: an enum holds no array.

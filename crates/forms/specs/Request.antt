@@ -3,30 +3,15 @@ use Prim.Native.Nat.{ℕ, _+_}
 use mathlib.Core.Bool.{Bool, true, false, cond, _&&_}
 use mathlib.Core.List.{List, [], _∷_}
 use mathlib.Core.Option.{Option, none, some}
-use lib.Dec.{eqb}
 use lib.ListN.{set, replicate}
-use Rattle.calculus.specs.Number.{within, isNode}
+use Rattle.calculus.specs.Number.{within, isNode, isSession, isItem, isTag, senderOf}
 use Rattle.calculus.specs.declared.answer.Refusal.the-variants.{Unreadable, Range}
 use Rattle.calculus.specs.declared.request.Request as request
 use Rattle.calculus.specs.declared.request.Request.the-variants.{Node, Route, Open, Step, Send, Close, Show}
-use Rattle.calculus.specs.declared.request.Sender.{Sender}
-use Rattle.calculus.specs.declared.request.Sender.the-variants.{Client, Server}
 use Rattle.forms.specs.declared.read.Parsed.{Parsed}
 use Rattle.forms.specs.declared.read.Parsed.the-variants.{Asks, Refused}
 use Rattle.forms.specs.declared.read.Reading.{Reading}
 use Rattle.forms.specs.Text.{Form, node, route, «open», step, send, close, show}
-
--- "Sessions 1 to 8"
-abbrev pub isSession : ℕ → Bool
-isSession = within 1 8
-
--- an item's number: "from 1 to 1,000,000"
-abbrev pub isItem : ℕ → Bool
-isItem = within 1 1000000
-
--- "Tag 0 to 4,294,967,295"
-abbrev pub isTag : ℕ → Bool
-isTag = within 0 4294967295
 
 -- "credentials 0 to 63", strictly rising, the first at least `least`
 abbrev pub rising : ℕ → List ℕ → Bool
@@ -41,10 +26,6 @@ holding s (n ∷ ns) = holding (set s n true) ns
 -- the empty set
 abbrev pub noCredentials : List Bool
 noCredentials = replicate 64 false
-
--- "send u 0 tag" is the client's, "with 1" the server's
-abbrev pub senderOf : ℕ → Sender
-senderOf w = cond (eqb w 0) Client Server
 
 -- the request q where its numbers are in range, else refusal 2
 abbrev pub inRange : Bool → request.Request → Parsed

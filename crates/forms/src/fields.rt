@@ -7,14 +7,17 @@ use crate::reading::refused;
 use calculus::answer::Refusal;
 use calculus::number::ItemNumber;
 use calculus::number::SessionNumber;
+use calculus::number::is_item;
 use calculus::number::is_node;
+use calculus::number::is_session;
+use calculus::number::is_tag;
 use calculus::number::within;
 use calculus::request::Request;
 use calculus::request::Sender;
 ghost use mathlib.Core.Path.{_≡_};
 ghost use mathlib.Core.Bool.{_&&_};
 ghost use Rattle.forms.specs.Read as spec;
-ghost use Rattle.forms.specs.Request.{isSession, senderOf, asked};
+ghost use Rattle.forms.specs.Request.{asked};
 ghost use Rattle.forms.specs.Held.{fieldsIn};
 
 // Whether as many numbers as were asked for were read, and these are the first of `values`.
@@ -42,24 +45,6 @@ pub fn both(a: bool, b: bool) -> bool
     ensures { λ r. ⌜ r ≡ (a && b) ⌝ }
 {
     if a { b } else { false }
-}
-
-// Whether `n` is a session's number.
-fn is_session(n: u64) -> bool
-    ensures { λ r. ⌜ r ≡ isSession n ⌝ }
-{
-    within(n, 1, 8)
-}
-
-// Which end sends: 0 the client, 1 the server.
-fn sender(which: u64) -> Sender
-    ensures { λ r. ⌜ r ≡ senderOf which ⌝ }
-{
-    if which == 0 {
-        Sender::Client
-    } else {
-        Sender::Server
-    }
 }
 
 // What `(route` asks with these numbers; refusal 1 where there are not three, 2 where one is out of range. So for the others.
@@ -119,7 +104,7 @@ pub fn step_of(f: Fields) -> Reading
         let values = f.values;
         let session = values[0];
         let item = values[1];
-        if both(is_session(session), within(item, 1, 1000000)) {
+        if both(is_session(session), is_item(item)) {
             asks(Request::Step(SessionNumber(session as u8), ItemNumber(item as u32)))
         } else {
             refused(Refusal::Range)
@@ -139,11 +124,12 @@ pub fn send_of(f: Fields) -> Reading
         let session = values[0];
         let which = values[1];
         let tag = values[2];
-        if both(
-            is_session(session),
-            both(within(which, 0, 1), within(tag, 0, 4294967295)),
-        ) {
-            asks(Request::Send(SessionNumber(session as u8), sender(which), tag as u32))
+        if both(is_session(session), both(within(which, 0, 1), is_tag(tag))) {
+            asks(Request::Send(
+                SessionNumber(session as u8),
+                Sender::numbered(which),
+                tag as u32,
+            ))
         } else {
             refused(Refusal::Range)
         }

@@ -5,7 +5,7 @@ use mathlib.Core.List.{List}
 use mathlib.Core.Option.{Option, none, some}
 use Prim.Native.Nat.{ℕ}
 use lib.Dec.{eqb}
-use Rattle.calculus.specs.Number.{isNode, within}
+use Rattle.calculus.specs.Number.{isNode, within, isSession, isItem, isTag, senderOf}
 use Rattle.calculus.proofs.Tests.{both, never}
 use Rattle.calculus.specs.declared.answer.Refusal.{Refusal}
 use Rattle.calculus.specs.declared.answer.Refusal.the-variants.{Unreadable, Range}
@@ -19,7 +19,7 @@ use Rattle.calculus.specs.declared.state.State.{State}
 use Rattle.forms.specs.declared.read.Parsed.the-variants.{Asks, Refused}
 use Rattle.forms.specs.declared.read.Reading.{Reading}
 use Rattle.forms.specs.Text.{Form, node, route, «open», step, send, close, show}
-use Rattle.forms.specs.Request.{isSession, isItem, isTag, rising, holding, noCredentials, senderOf, inRange, plain, reading, asked}
+use Rattle.forms.specs.Request.{rising, holding, noCredentials, inRange, plain, reading, asked}
 use Rattle.model.specs.Row.{stands}
 use Rattle.model.specs.Requests.{Move, refuse, openMove, stepMove, sendMove, closeMove, performed}
 use Rattle.model.specs.State.{load}

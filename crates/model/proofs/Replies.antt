@@ -6,7 +6,7 @@ use Prim.Native.Nat.{ℕ}
 use native.Mathlib.Omega.{arith}
 use lib.Dec.{ltb, eqb}
 use borrow.Author.Tests.{eqb-false, not-false}
-use Rattle.calculus.specs.Number.{isNode}
+use Rattle.calculus.specs.Number.{isNode, isSession}
 use Rattle.calculus.proofs.Tests.{within-bounds, both, never}
 use Rattle.calculus.specs.declared.network.Kind.{Kind}
 use Rattle.calculus.specs.declared.network.Network.{Network}
@@ -15,7 +15,7 @@ use Rattle.calculus.specs.declared.state.State.{State}
 use Rattle.calculus.specs.declared.state.Turn.{Turn}
 use Rattle.forms.specs.declared.read.Reading.{Reading}
 use Rattle.forms.specs.Read.{read}
-use Rattle.forms.specs.Request.{isSession, asked}
+use Rattle.forms.specs.Request.{asked}
 use Rattle.model.specs.Network.{given}
 use Rattle.model.specs.State.{load, store}
 use Rattle.model.specs.Requests.{refused, accepted, withNode, withRoute, nodeTurn, routeTurn, Move, refuse, moved, changed, performed}

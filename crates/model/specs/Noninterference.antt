@@ -5,7 +5,7 @@ use mathlib.Core.Bool.{Bool, true, false, cond}
 use mathlib.Core.List.{List, [], _∷_, _++_, map}
 use mathlib.Core.Option.{Option, none, some}
 use Rattle.calculus.specs.Answer.{refusalNumber}
-use Rattle.calculus.specs.Number.{isNode}
+use Rattle.calculus.specs.Number.{isNode, isSession}
 use Rattle.calculus.specs.declared.answer.Answer.{Answer}
 use Rattle.calculus.specs.declared.answer.Answer.the-variants.{Ok, Made, MadeTwo, Lost, Denied, Opened, Delivered, Closed, No, Assoc, End}
 use Rattle.calculus.specs.declared.answer.Refusal.{Refusal}
@@ -14,7 +14,6 @@ use Rattle.calculus.specs.declared.session.Row.{Row}
 use Rattle.calculus.specs.declared.session.Stage.{Stage}
 use Rattle.calculus.specs.declared.state.Part.{Part}
 use Rattle.calculus.specs.declared.state.State.{State}
-use Rattle.forms.specs.Request.{isSession}
 use Rattle.model.specs.Lists.{All, upFrom}
 use Rattle.model.specs.Item.{vacant}
 use Rattle.model.specs.Row.{held, howMany, usersOf, rowStands}

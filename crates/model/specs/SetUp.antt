@@ -18,8 +18,7 @@ use Rattle.calculus.specs.declared.packet.Item.the-variants.{Free, Wire, Out, U
 use Rattle.calculus.specs.declared.packet.Slot.{Slot}
 use Rattle.calculus.specs.declared.state.Part.{Part}
 use Rattle.calculus.specs.declared.state.State.{State}
-use Rattle.calculus.specs.Number.{within}
-use Rattle.forms.specs.Request.{isSession}
+use Rattle.calculus.specs.Number.{within, isSession}
 use Rattle.model.specs.Lists.{tally, All, upFrom}
 use Rattle.model.specs.Network.{given, isGateway, nextHop}
 use Rattle.model.specs.Row.{held, areNodes, usersOf, stands}

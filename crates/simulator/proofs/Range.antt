@@ -4,14 +4,14 @@ use mathlib.Core.Bool.{Bool, true, _&&_}
 use mathlib.Core.Option.{Option, none, some}
 use Prim.Native.Nat.{ℕ, _≤_}
 use native.Mathlib.Omega.{arith}
-use Rattle.calculus.specs.Number.{within, isNode}
+use Rattle.calculus.specs.Number.{within, isNode, isSession, isItem, isTag}
 use Rattle.calculus.proofs.Tests.{both, within-bounds}
 use Rattle.calculus.specs.declared.request.Request.the-variants.{Node, Route, Open, Step, Send, Close, Show}
 use Rattle.forms.specs.declared.read.Parsed.{Parsed}
 use Rattle.forms.specs.declared.read.Parsed.the-variants.{Asks, Refused}
 use Rattle.forms.specs.declared.read.Reading.{Reading}
 use Rattle.forms.specs.Text.{Form, node, route, «open», step, send, close, show}
-use Rattle.forms.specs.Request.{isSession, isItem, isTag, rising, reading, asked}
+use Rattle.forms.specs.Request.{rising, reading, asked}
 use Rattle.model.specs.Turn.{sessionOf}
 use Rattle.model.proofs.Checks.{either}
 use Rattle.simulator.specs.Range.{IsSession, Ranged}
