@@ -44,7 +44,7 @@ pub fn blank_part() -> Part
             server: 0,
             begun: 0,
             rows: 0,
-            last: 0,
+            last: ItemNumber(0),
         },
         items: [slot; 16],
         rows: [row; 32],

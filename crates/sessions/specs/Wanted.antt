@@ -9,5 +9,5 @@ use Rattle.sessions.specs.declared.items.Wanted.the-variants.{Vacancy, N
 -- whether the place is one
 abbrev pub isWanted : wanted.Wanted → Slot → Bool
 isWanted Vacancy = vacant
-isWanted (Number k) = isNumbered k
+isWanted (Number k) = isNumbered (k .0)
 isWanted (That w) = λ s. isThatWait w (s .item)

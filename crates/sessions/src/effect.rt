@@ -23,15 +23,15 @@ ghost use Rattle.model.specs.Row as row;
 ghost use Rattle.model.specs.State as spec;
 
 // The items once those of the outcome are written, `n` being the last number.
-fn written(items: [Slot; 16], n: u32, o: Outcome) -> [Slot; 16]
-    requires { ⌜ n ≤ 999998 ⌝ }
-    ensures { λ r. ⌜ r ≡ spec.written items n o ⌝ }
+fn written(items: [Slot; 16], n: ItemNumber, o: Outcome) -> [Slot; 16]
+    requires { ⌜ n .0 ≤ 999998 ⌝ }
+    ensures { λ r. ⌜ r ≡ spec.written items (n .0) o ⌝ }
 {
     match o {
-        Outcome::Wrote(i) => put_item(items, n + 1, i),
+        Outcome::Wrote(i) => put_item(items, ItemNumber(n.0 + 1), i),
         Outcome::WroteTwo(i, j) => {
-            let one = put_item(items, n + 1, i);
-            put_item(one, n + 2, j)
+            let one = put_item(items, ItemNumber(n.0 + 1), i);
+            put_item(one, ItemNumber(n.0 + 2), j)
         }
         Outcome::Lost(_) => items,
         Outcome::Denied => items,
@@ -41,13 +41,13 @@ fn written(items: [Slot; 16], n: u32, o: Outcome) -> [Slot; 16]
 }
 
 // The last number once the outcome's items are written.
-fn last_after(n: u32, o: Outcome) -> u32
-    requires { ⌜ n ≤ 999998 ⌝ }
-    ensures { λ r. ⌜ r ≡ n + spec.writtenCount o ⌝ }
+fn last_after(n: ItemNumber, o: Outcome) -> ItemNumber
+    requires { ⌜ n .0 ≤ 999998 ⌝ }
+    ensures { λ r. ⌜ r ≡ record { 0 = n .0 + spec.writtenCount o } ⌝ }
 {
     match o {
-        Outcome::Wrote(_) => n + 1,
-        Outcome::WroteTwo(_, _) => n + 2,
+        Outcome::Wrote(_) => ItemNumber(n.0 + 1),
+        Outcome::WroteTwo(_, _) => ItemNumber(n.0 + 2),
         Outcome::Lost(_) => n,
         Outcome::Denied => n,
         Outcome::Opened => n,
@@ -56,13 +56,13 @@ fn last_after(n: u32, o: Outcome) -> u32
 }
 
 // What a step with this outcome answers.
-pub fn answer_of(n: u32, o: Outcome) -> Answer
-    requires { ⌜ n ≤ 999998 ⌝ }
-    ensures { λ r. ⌜ r ≡ spec.answerOf n o ⌝ }
+pub fn answer_of(n: ItemNumber, o: Outcome) -> Answer
+    requires { ⌜ n .0 ≤ 999998 ⌝ }
+    ensures { λ r. ⌜ r ≡ spec.answerOf (n .0) o ⌝ }
 {
     match o {
-        Outcome::Wrote(_) => Answer::Made(ItemNumber(n + 1)),
-        Outcome::WroteTwo(_, _) => Answer::MadeTwo(ItemNumber(n + 1), ItemNumber(n + 2)),
+        Outcome::Wrote(_) => Answer::Made(ItemNumber(n.0 + 1)),
+        Outcome::WroteTwo(_, _) => Answer::MadeTwo(ItemNumber(n.0 + 1), ItemNumber(n.0 + 2)),
         Outcome::Lost(l) => Answer::Lost(l),
         Outcome::Denied => Answer::Denied,
         Outcome::Opened => Answer::Opened,
@@ -156,9 +156,9 @@ pub fn users_after(users: &mut [u16; 2048], held: u8, added: Added)
 
 // ---- the whole part
 
-fn items_after(items: [Slot; 16], n: u32, at: usize, f: Effect) -> [Slot; 16]
-    requires { ⌜ n ≤ 999998 ⌝ }
-    ensures { λ r. ⌜ r ≡ spec.itemsAfter items n at f ⌝ }
+fn items_after(items: [Slot; 16], n: ItemNumber, at: usize, f: Effect) -> [Slot; 16]
+    requires { ⌜ n .0 ≤ 999998 ⌝ }
+    ensures { λ r. ⌜ r ≡ spec.itemsAfter items (n .0) at f ⌝ }
 {
     let wait = f.wait;
     let outcome = f.outcome;
@@ -169,17 +169,18 @@ fn items_after(items: [Slot; 16], n: u32, at: usize, f: Effect) -> [Slot; 16]
 }
 
 fn session_after(s: Session, f: Effect) -> Session
-    requires { ⌜ s .last ≤ 999998 ⌝ }
+    requires { ⌜ s .last .0 ≤ 999998 ⌝ }
     ensures { λ r. ⌜ r ≡ spec.sessionAfter s f ⌝ }
 {
     let before = s.stage;
+    let number = s.last;
     let outcome = f.outcome;
     let begins = f.begins;
     let added = f.added;
     let stage = stage_after(before, outcome);
     let begun = begun_after(s.begun, begins);
     let rows = held_after(s.rows, added);
-    let last = last_after(s.last, outcome);
+    let last = last_after(number, outcome);
     Session {
         stage,
         client: s.client,
@@ -192,15 +193,16 @@ fn session_after(s: Session, f: Effect) -> Session
 
 // The part once the item at `at` has had the effect `f`.
 pub fn applied(t: Part, at: usize, f: Effect) -> Part
-    requires { ⌜ t .session .last ≤ 999998 ⌝ }
+    requires { ⌜ t .session .last .0 ≤ 999998 ⌝ }
     ensures { λ r. ⌜ r ≡ spec.applied t at f ⌝ }
 {
     let before = t.session;
+    let last = before.last;
     let old_items = t.items;
     let old_rows = t.rows;
     let added = f.added;
     let session = session_after(before, f);
-    let items = items_after(old_items, before.last, at, f);
+    let items = items_after(old_items, last, at, f);
     let rows = rows_after(old_rows, before.rows, added);
     Part {
         session,

@@ -145,14 +145,14 @@ fn is_vacant(s: Slot) -> bool
     is_free(item)
 }
 
-fn is_numbered(k: u32, s: Slot) -> bool
-    ensures { λ r. ⌜ r ≡ state.isNumbered k s ⌝ }
+fn is_numbered(k: ItemNumber, s: Slot) -> bool
+    ensures { λ r. ⌜ r ≡ state.isNumbered (k .0) s ⌝ }
 {
     if is_vacant(s) {
         return false;
     }
     let number = s.number;
-    number.0 == k
+    number.0 == k.0
 }
 
 fn holds_wait(w: Wait, s: Slot) -> bool
@@ -184,7 +184,7 @@ fn count_one(n: usize, s: Slot) -> usize
 // What is looked for among a session's places: a free one, that of an item's number, that of a wait.
 pub enum Wanted {
     Vacancy,
-    Number(u32),
+    Number(ItemNumber),
     That(Wait),
 }
 
@@ -253,16 +253,9 @@ pub fn use_up(items: [Slot; 16], w: Wait) -> [Slot; 16]
 }
 
 // Item `i`, with the number `n`, goes to the first free place; with none free it is dropped.
-pub fn put_item(items: [Slot; 16], n: u32, i: Item) -> [Slot; 16]
-    ensures { λ r. ⌜ r ≡ state.putItem items n i ⌝ }
+pub fn put_item(items: [Slot; 16], n: ItemNumber, i: Item) -> [Slot; 16]
+    ensures { λ r. ⌜ r ≡ state.putItem items (n .0) i ⌝ }
 {
     let at = find(items, Wanted::Vacancy);
-    set_slot(
-        items,
-        at,
-        Slot {
-            number: ItemNumber(n),
-            item: i,
-        },
-    )
+    set_slot(items, at, Slot { number: n, item: i })
 }

@@ -65,13 +65,14 @@ fn is_in_use(g: Stage) -> bool
 
 // The session at this stage and between these ends, with the item written.
 fn with_item(t: Part, stage: Stage, client: u8, server: u8, i: Item) -> Part
-    requires { ⌜ t .session .last ≤ 999998 ⌝ }
+    requires { ⌜ t .session .last .0 ≤ 999998 ⌝ }
     ensures { λ r. ⌜ r ≡ spec.withItem t stage client server i ⌝ }
 {
     let s = t.session;
     let old_items = t.items;
     let rows = t.rows;
-    let last = s.last + 1;
+    let number = s.last;
+    let last = ItemNumber(number.0 + 1);
     let items = put_item(old_items, last, i);
     Part {
         session: Session {
@@ -108,7 +109,7 @@ fn has_gateway(n: Network, c: u8, d: u8) -> bool
 }
 
 fn opening(t: Part, c: u8, d: u8) -> Part
-    requires { ⌜ t .session .last ≤ 999998 ⌝ }
+    requires { ⌜ t .session .last .0 ≤ 999998 ⌝ }
     ensures { λ r. ⌜ r ≡ spec.opening t c d ⌝ }
 {
     let packet = bare(c, d, Payload::Disc(c));
@@ -121,6 +122,7 @@ pub fn open(n: Network, t: Part, c: u8, d: u8) -> Moved
 {
     let s = t.session;
     let stage = s.stage;
+    let last = s.last;
     if is_in_use(stage) {
         return refused(t, Refusal::Taken);
     }
@@ -133,13 +135,13 @@ pub fn open(n: Network, t: Part, c: u8, d: u8) -> Moved
     if has_gateway(n, c, d) {
         return refused(t, Refusal::Gateway);
     }
-    if 999998 < s.last {
+    if 999998 < last.0 {
         return refused(t, Refusal::Spent);
     }
     let part = opening(t, c, d);
     Moved {
         opens: true,
-        answer: Answer::Made(ItemNumber(s.last + 1)),
+        answer: Answer::Made(ItemNumber(last.0 + 1)),
         part,
     }
 }
@@ -148,13 +150,14 @@ pub fn open(n: Network, t: Part, c: u8, d: u8) -> Moved
 
 // What the effect of the item at `at` leaves.
 fn stepped(users: &mut [u16; 2048], t: Part, at: usize, f: Effect) -> Moved
-    requires { ⌜ t .session .last ≤ 999998 ⌝ }
+    requires { ⌜ t .session .last .0 ≤ 999998 ⌝ }
     ensures { λ r. ⌜ Moves (now (users .entry)) t (spec.stepped t at f) (now (users .exit)) r ⌝ }
 {
     let s = t.session;
+    let last = s.last;
     let outcome = f.outcome;
     let added = f.added;
-    let answer = answer_of(s.last, outcome);
+    let answer = answer_of(last, outcome);
     let part = applied(t, at, f);
     users_after(users, s.rows, added);
     Moved {
@@ -170,6 +173,7 @@ fn step_at(n: Network, users: &mut [u16; 2048], t: Part, at: usize) -> Moved
 {
     let s = t.session;
     let stage = s.stage;
+    let last = s.last;
     let items = t.items;
     if is_unused(stage) {
         return refused(t, Refusal::Idle);
@@ -182,7 +186,7 @@ fn step_at(n: Network, users: &mut [u16; 2048], t: Part, at: usize) -> Moved
     if is_wait(item) {
         return refused(t, Refusal::Waiting);
     }
-    if 999998 < s.last {
+    if 999998 < last.0 {
         return refused(t, Refusal::Spent);
     }
     let effect = rule(n, users, t, item);
@@ -194,7 +198,7 @@ pub fn step(n: Network, users: &mut [u16; 2048], t: Part, k: ItemNumber) -> Move
     ensures { λ r. ⌜ Moves (now (users .entry)) t (spec.stepMove n (stands (now (users .entry)) false) (k .0) t) (now (users .exit)) r ⌝ }
 {
     let items = t.items;
-    let at = find(items, Wanted::Number(k.0));
+    let at = find(items, Wanted::Number(k));
     step_at(n, users, t, at)
 }
 
@@ -216,7 +220,7 @@ fn data_item(s: Session, w: Sender, tag: u32) -> Item
 }
 
 fn sending(t: Part, w: Sender, tag: u32) -> Part
-    requires { ⌜ t .session .last ≤ 999998 ⌝ }
+    requires { ⌜ t .session .last .0 ≤ 999998 ⌝ }
     ensures { λ r. ⌜ r ≡ spec.sending t w tag ⌝ }
 {
     let s = t.session;
@@ -239,6 +243,7 @@ pub fn send(t: Part, w: Sender, tag: u32) -> Moved
 {
     let s = t.session;
     let stage = s.stage;
+    let last = s.last;
     let items = t.items;
     if is_unused(stage) {
         return refused(t, Refusal::Idle);
@@ -246,13 +251,13 @@ pub fn send(t: Part, w: Sender, tag: u32) -> Moved
     if is_full(items) {
         return refused(t, Refusal::Full);
     }
-    if 999998 < s.last {
+    if 999998 < last.0 {
         return refused(t, Refusal::Spent);
     }
     let part = sending(t, w, tag);
     Moved {
         opens: false,
-        answer: Answer::Made(ItemNumber(s.last + 1)),
+        answer: Answer::Made(ItemNumber(last.0 + 1)),
         part,
     }
 }
@@ -264,6 +269,7 @@ fn emptied(blank: Part, t: Part) -> Part
     ensures { λ r. ⌜ r ≡ spec.emptied blank t ⌝ }
 {
     let s = t.session;
+    let kept = s.last;
     let items = blank.items;
     let rows = blank.rows;
     Part {
@@ -273,7 +279,7 @@ fn emptied(blank: Part, t: Part) -> Part
             server: 0,
             begun: 0,
             rows: 0,
-            last: s.last,
+            last: kept,
         },
         items,
         rows,

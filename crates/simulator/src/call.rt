@@ -9,6 +9,7 @@ use crate::turn::turn;
 use calculus::answer::Answer;
 use calculus::answer::Refusal;
 use calculus::network::Network;
+use calculus::number::ItemNumber;
 use calculus::session::Session;
 use calculus::session::Stage;
 use calculus::state::State;
@@ -48,7 +49,7 @@ pub fn fresh() -> State
         server: 0,
         begun: 0,
         rows: 0,
-        last: 0,
+        last: ItemNumber(0),
     };
     let slot = blank_slot();
     let row = blank_row();

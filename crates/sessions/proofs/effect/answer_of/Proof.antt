@@ -4,10 +4,10 @@ use Rattle.sessions.proofs.effect.answer_of.Statement.{statement}
 use Rattle.sessions.proofs.effect.answer_of.Tie as tie
 
 returns : tie.Need-returns
-returns c = simp (c .enum-told .given .1)
+returns c = simp (c .before .enum-told .given .1)
 
 returns-2 : tie.Need-returns-2
-returns-2 c = simp (c .enum-told2 .given .1)
+returns-2 c = simp (c .before .before .enum-told2 .given .1)
 
 returns-3 : tie.Need-returns-3
 returns-3 c = simp (c .before .o .given .1)

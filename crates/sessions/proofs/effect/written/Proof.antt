@@ -4,10 +4,10 @@ use Rattle.sessions.proofs.effect.written.Statement.{statement}
 use Rattle.sessions.proofs.effect.written.Tie as tie
 
 returns : tie.Need-returns
-returns c = simp (c .put-item .ensures, c .before .before .o .given .1)
+returns c = simp (c .put-item .ensures, c .before .before .before .o .given .1)
 
 returns-2 : tie.Need-returns-2
-returns-2 c = simp (c .put-item3 .ensures, c .before .put-item2 .ensures, c .before .before .before .o2 .given .1)
+returns-2 c = simp (c .put-item3 .ensures, c .before .before .put-item2 .ensures, c .before .before .before .before .before .o2 .given .1)
 
 pub written-spec : {M : Type 1} → statement M
 written-spec =

@@ -8,7 +8,7 @@ returns : tie.Need-returns
 returns c = simp (join (c .before .is-vacant .ensures) (c .if1 .taken))
 
 returns-2 : tie.Need-returns-2
-returns-2 c = simp (join (c .before .before .before .is-vacant .ensures) (c .before .before .if1 .left))
+returns-2 c = simp (join (c .before .before .before .before .is-vacant .ensures) (c .before .before .before .if1 .left))
 
 pub is-numbered-spec : {M : Type 1} → statement M
 is-numbered-spec = tie.close (tie.spec (λ c κs. search needs) returns returns-2)

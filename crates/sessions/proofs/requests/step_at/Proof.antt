@@ -64,7 +64,7 @@ returns-5 c =
     let c₄ = c .before .before .before .before in
     let c₆ = c₄ .before .before in
     let c₉ = c₆ .before .before .before in
-    let args = c₉ .before .before .before .before .before .args in
+    let args = c₉ .before .before .before .before .before .before .args in
     passed (args .t) (args .at) (c .stepped .ensures) (c .before .before .rule .ensures)
     (join (c₉ .before .before .is-unused .ensures) (c₉ .before .if1 .left))
     (lt-leb _ _ (c₉ .if2 .left))
