@@ -3,6 +3,7 @@ use crate::part::load;
 use crate::part::store;
 use crate::show::put_answers;
 use crate::turn::is_ok;
+use crate::turn::is_opened;
 use crate::turn::network_of;
 use crate::turn::session_of;
 use crate::turn::turn;
@@ -19,7 +20,6 @@ use lookups::blank::blank_row;
 use lookups::blank::blank_slot;
 use lookups::network::no_node;
 ghost use mathlib.Core.Path.{_≡_};
-ghost use mathlib.Core.Bool.{_||_};
 ghost use lib.ListN.{length};
 ghost use Rattle.model.specs.Calls as calls;
 ghost use Rattle.model.specs.State as spec;
@@ -88,16 +88,6 @@ fn status_of(answer: Answer) -> Status
         } => Status::Answered,
         Answer::End => Status::Answered,
     }
-}
-
-// Whether an open was accepted, now or before.
-pub fn is_opened(opens: bool, opened: bool) -> bool
-    ensures { λ r. ⌜ r ≡ (opens || opened) ⌝ }
-{
-    if opens {
-        return true;
-    }
-    opened
 }
 
 // Answers `line`, the bytes before its newline, with lines at the front of `out`; the other bytes of `out` stay. Refusal 0

@@ -1,10 +1,10 @@
 // The calls of a text, one on each line, answered one after the other. The sessions' parts and the shared tables are taken out of
 // the state once, and put back once: a call moves one part, and not the whole state.
-use crate::call::is_opened;
 use crate::part::pack;
 use crate::part::unpack;
 use crate::show::put_answers;
 use crate::turn::is_ok;
+use crate::turn::is_opened;
 use crate::turn::network_of;
 use crate::turn::session_of;
 use crate::turn::turn;

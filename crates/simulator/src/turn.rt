@@ -177,6 +177,16 @@ pub fn is_ok(answer: Answer) -> bool
 
 // ---- a line
 
+// Whether an open was accepted, now or before.
+pub fn is_opened(opens: bool, opened: bool) -> bool
+    ensures { λ r. ⌜ r ≡ (opens || opened) ⌝ }
+{
+    if opens {
+        return true;
+    }
+    opened
+}
+
 fn session_in(q: Request) -> SessionNumber
     ensures { λ r. ⌜ r ≡ record { 0 = turns.sessionIn q } ⌝ }
 {
