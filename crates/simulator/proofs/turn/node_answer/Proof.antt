@@ -1,13 +1,22 @@
 -- `turn::node_answer` meets its contract. Assumes nothing.
 use borrow.Author.Needs.{needs}
+use mathlib.Core.Path.{_≡_, refl}
+use mathlib.Core.Bool.{cond}
+use mathlib.Core.List.{List, _∷_}
+use Rattle.calculus.specs.declared.answer.Answer.{Answer}
+use Rattle.calculus.specs.declared.answer.Answer.the-variants.{No}
 use Rattle.calculus.proofs.Tests.{join}
-use Rattle.model.specs.Requests.{checked}
+use Rattle.model.specs.Requests.{Check, checked}
 use Rattle.simulator.proofs.turn.node_answer.Statement.{statement}
 use Rattle.simulator.proofs.turn.node_answer.Tie as tie
 
-returns : tie.Need-returns
+-- the first test is made first
+checked-cons : (k : Check) (ks : List Check) (x : Answer) → checked No (k ∷ ks) x ≡ cond (k .0) (No (k .1)) (checked No ks x)
 unfolding checked
-returns c = simp (c .if1 .taken)
+checked-cons k ks x = refl
+
+returns : tie.Need-returns
+returns c = simp (checked-cons, c .if1 .taken)
 
 returns-2 : tie.Need-returns-2
 unfolding checked
