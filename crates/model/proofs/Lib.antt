@@ -28,5 +28,7 @@ pub mod Show
 pub mod Listings
 pub mod Turns
 pub mod Batch
+pub mod Newlines
 pub mod Texts
+pub mod Unfinished
 pub mod Stream

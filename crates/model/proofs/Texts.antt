@@ -1,97 +1,47 @@
 -- The calls of a text are a list of calls. `texts` is the promise. Assumes nothing.
 use mathlib.Core.Path.{_≡_, refl, ap, _∙_}
-use mathlib.Core.Bool.{Bool, true, false, cond, _||_}
+use mathlib.Core.Bool.{Bool, true, false, _||_}
 use mathlib.Core.List.{List, [], _∷_, _++_, append-assoc, append-nil}
-use Prim.Native.Nat.{ℕ, zero, suc, _+_, _-_, _≤_, _<_}
+use Prim.Native.Nat.{ℕ, zero, suc, _+_, _-_, _≤_}
 use native.Mathlib.Omega.{arith}
-use borrow.Author.Tests.{eq-eqb, ne-eqb, ltb-true, ltb-false, le-ltb}
-use lib.Dec.{ltb, eqb}
+use borrow.Author.Tests.{ltb-false, le-ltb}
 use lib.ListN.{length, take, drop, length-drop, length-append, drop-of-length-le}
 use lib.Seq.{drop-drop, take-append-seam, drop-append-seam}
 use Rattle.calculus.specs.declared.state.State.{State}
 use Rattle.calculus.proofs.Tests.{Way, is, isnt, way, clash}
-use Rattle.forms.specs.Line.{lineLength, lineTo, nextLine, withFirst, lines}
-use Rattle.forms.specs.declared.line.Line.the-variants.{Found, End}
-use Rattle.model.specs.Calls.{answered, linesOf, after, replies}
-use Rattle.model.specs.Batch.{Batch, isLast, isOver, oneMore, answeredLines, answeredText}
+use Rattle.forms.specs.Line.{lineLength, nextLine, lines}
+use Rattle.forms.specs.declared.line.Line.the-variants.{Found}
+use Rattle.model.specs.Calls.{Reply, answered, linesOf, after, replies}
+use Rattle.model.specs.Batch.{Batch, isLast, lineOf, isOverAt, isOver, oneMore, answeredLines, answeredText}
 use Rattle.model.specs.Texts.{afterLines, answersTo, NoNewline, AnswersText, Texts}
 use Rattle.model.proofs.Batch.{lines-over, lines-more, text-inside}
-
--- ---- a line that ends in a newline
-
--- it is the first line, whatever comes behind the text
-pub lines-ended : (l more : List ℕ) → lineLength l < length l
-    → lines (l ++ more) ≡ take (lineLength l) l ∷ lines (drop (suc (lineLength l)) l ++ more)
-unfolding lines lineLength
-lines-ended [] more h = absurd (omega arith)
-lines-ended (c ∷ l) more h = go (eqb c 10) (lines-ended l more) h
-  where
-    go : (b : Bool)
-        → (lineLength l < length l → lines (l ++ more) ≡ take (lineLength l) l ∷ lines (drop (suc (lineLength l)) l ++ more))
-        → cond b 0 (suc (lineLength l)) < suc (length l)
-        → cond b ([] ∷ lines (l ++ more)) (withFirst c (lines (l ++ more)))
-        ≡ take (cond b 0 (suc (lineLength l))) (c ∷ l) ∷ lines (drop (suc (cond b 0 (suc (lineLength l)))) (c ∷ l) ++ more)
-    go true ih h = refl
-    go false ih h = ap (withFirst c) (ih (omega arith))
-
-pub lineLength-most : (l : List ℕ) → lineLength l ≤ length l
-unfolding lineLength
-lineLength-most [] = omega arith
-lineLength-most (c ∷ l) = go (eqb c 10) (lineLength-most l)
-  where
-    go : (b : Bool) → lineLength l ≤ length l → cond b 0 (suc (lineLength l)) ≤ suc (length l)
-    go true h = omega arith
-    go false h = omega arith
-
--- ---- where the next line stands
-
--- the line at `from` ends in a newline at from + size
-record Ended (text : List ℕ) (from : ℕ) : Type 0 where
-  pub newline : lineLength (drop from text) < length (drop from text)
-  pub found : nextLine text from ≡ Found (from + lineLength (drop from text)) (from + lineLength (drop from text) + 1)
-
-line-ended : (text : List ℕ) (from : ℕ) → isLast (nextLine text from) ≡ false → Ended text from
-line-ended text from = go (lineLength (drop from text)) refl (way (ltb from (length text)))
-  where
-    go : (k : ℕ) → lineLength (drop from text) ≡ k → Way (ltb from (length text)) → isLast (cond (ltb from (length text)) (lineTo text (from + k)) End) ≡ false → Ended text from
-    go k e (isnt f) q = clash (let z : true ≡ false = rw f at q in cc)
-    go k e (is f) q = found (way (ltb (from + k) (length text)))
-      where
-        found : Way (ltb (from + k) (length text)) → Ended text from
-        found (is g) =
-            record {
-              newline = omega (arith, length-drop from text, ltb-true (from + k) (length text) g, e);
-              found = rw (e, f, g);
-            }
-        found (isnt g) =
-            let z : eqb (from + k) (from + k) ≡ false = rw (f, g) at q in
-            let y : eqb (from + k) (from + k) ≡ true = eq-eqb (from + k) (from + k) refl in
-            clash cc
-
-line-last : (text : List ℕ) (from : ℕ) → isLast (nextLine text from) ≡ true → NoNewline (drop from text)
-line-last text from = go (lineLength (drop from text)) refl (way (ltb from (length text)))
-  where
-    go : (k : ℕ) → lineLength (drop from text) ≡ k → Way (ltb from (length text)) → isLast (cond (ltb from (length text)) (lineTo text (from + k)) End) ≡ true → NoNewline (drop from text)
-    go k e (isnt f) q = omega (arith, length-drop from text, lineLength-most (drop from text), ltb-false from (length text) f)
-    go k e (is f) q = found (way (ltb (from + k) (length text)))
-      where
-        found : Way (ltb (from + k) (length text)) → NoNewline (drop from text)
-        found (isnt g) = omega (arith, length-drop from text, lineLength-most (drop from text), ltb-false (from + k) (length text) g, e)
-        found (is g) =
-            let z : eqb (from + k) (from + k + 1) ≡ true = rw (f, g) at q in
-            let y : eqb (from + k) (from + k + 1) ≡ false = ne-eqb (from + k) (from + k + 1) (λ w. omega arith) in
-            clash cc
+use Rattle.model.proofs.Newlines.{lines-ended, Ended, line-ended, line-last}
 
 -- ---- the calls
+
+-- with 65,535 bytes left of the output there is no further call, with 65,536 there is where a line ends in a newline
+room-short : (text : List ℕ) (from : ℕ) → isOverAt text from 65535 ≡ true
+room-short text from = refl
+
+room-enough : (text : List ℕ) (from : ℕ) → isOverAt text from 65536 ≡ isLast (nextLine text from)
+room-enough text from = refl
 
 -- how far the calls have come: `done` is written, and `left` of the output stays
 abbrev at : State → ℕ → List ℕ → List ℕ → Batch
 at s from done left = record { state = s; read = from; out = done ++ left; written = length done }
 
+-- the reply to the line that starts at `from`
+abbrev replyAt : List ℕ → State → ℕ → Reply
+replyAt text s from = answered s (take (lineLength (drop from text)) (drop from text)) 65536
+
 -- any room that suffices for a call is as good as another
 pub answered-roomy : (s : State) (line : List ℕ) (size : ℕ) → 65536 ≤ size → answered s line size ≡ answered s line 65536
 unfolding answered
 answered-roomy s line size h = rw (le-ltb size 65536 h)
+
+-- the line of a call stands before its newline
+line-before : (text : List ℕ) (from k : ℕ) → lineOf text from (Found (from + k) (from + k + 1)) ≡ take k (drop from text)
+line-before text from k = let d : from + k - from ≡ k = omega arith in cc
 
 -- one line more: its answers are written behind `done`
 one-more : (text : List ℕ) (s : State) (from k : ℕ) (done left : List ℕ) → 65536 ≤ length left
@@ -99,8 +49,7 @@ one-more : (text : List ℕ) (s : State) (from k : ℕ) (done left : List ℕ) �
     oneMore text (at s from done left) (Found (from + k) (from + k + 1)) ≡ at (r .state) (from + k + 1) (done ++ linesOf r) (drop (length (linesOf r)) left)
 unfolding oneMore
 one-more text s from k done left h =
-    let d : from + k - from ≡ k = omega arith in
-    rw (take-append-seam done left, drop-append-seam done left, d, answered-roomy s (take k (drop from text)) (length left) h, ← append-assoc, length-append)
+    rw (take-append-seam done left, drop-append-seam done left, line-before text from k, answered-roomy s (take k (drop from text)) (length left) h, ← append-assoc, length-append)
 
 -- the calls that at most `fuel` lines are, from where `done` is written
 record Onward (text : List ℕ) (s : State) (from : ℕ) (done left : List ℕ) (fuel : ℕ) : Type 0 where
@@ -122,45 +71,46 @@ or-right false b e f = e
 room : (done left : List ℕ) → length (done ++ left) - length done ≡ length left
 room done left = simp length-append (omega arith)
 
--- no call: nothing is written
-onward-none : (text : List ℕ) (s : State) (from : ℕ) (done left : List ℕ) (fuel : ℕ) → answeredLines fuel text (at s from done left) ≡ at s from done left
-    → (length text ≤ from + fuel → 65536 ≤ length left → NoNewline (drop from text)) → Onward text s from done left fuel
-unfolding after replies
-onward-none text s from done left fuel e h =
-    record { ls = []; to = from; same = rw (append-nil done) e; first = λ more. refl; all = λ x y. h x (omega arith) }
+module _ (text : List ℕ) (s : State) (from : ℕ) (done left : List ℕ) (fuel : ℕ) where
+  -- no call: nothing is written
+  onward-none : answeredLines fuel text (at s from done left) ≡ at s from done left
+      → (length text ≤ from + fuel → 65536 ≤ length left → NoNewline (drop from text)) → Onward text s from done left fuel
+  unfolding after replies
+  onward-none e h =
+      record { ls = []; to = from; same = rw (append-nil done) e; first = λ more. refl; all = λ x y. h x (omega arith) }
 
--- one call, and then those behind it
-onward-more : (text : List ℕ) (s : State) (from : ℕ) (done left : List ℕ) (fuel : ℕ) → 65536 ≤ length left → Ended text from
-    → let r = answered s (take (lineLength (drop from text)) (drop from text)) 65536 in
-    answeredLines (suc fuel) text (at s from done left) ≡ answeredLines fuel text (oneMore text (at s from done left) (nextLine text from))
-    → Onward text (r .state) (from + lineLength (drop from text) + 1) (done ++ linesOf r) (drop (length (linesOf r)) left) fuel
-    → Onward text s from done left (suc fuel)
-unfolding after replies
-onward-more text s from done left fuel h e q w =
-    let k = lineLength (drop from text) in
-    let line = take k (drop from text) in
-    let r = answered s line 65536 in
-    let a = answersTo (r .state) (w .ls) in
-    let one = one-more text s from k done left h in
-    let n : from + suc k ≡ from + k + 1 = omega arith in
-    record {
-      ls = line ∷ w .ls;
-      to = w .to;
-      same = q ∙ rw (e .found, one, w .same, append-assoc done (linesOf r) a, drop-drop (length a) (length (linesOf r)) left, length-append (linesOf r) a);
-      first = λ more. lines-ended (drop from text) more (e .newline) ∙ rw (drop-drop (suc k) from text, n) (ap (λ (ls : List (List ℕ)). line ∷ ls) (w .first more));
-      all = λ x y. w .all (omega arith) (omega (arith, length-drop (length (linesOf r)) left, length-append (linesOf r) a));
-    }
+  -- one call, and then those behind it
+  onward-more : 65536 ≤ length left → Ended text from
+      → answeredLines (suc fuel) text (at s from done left) ≡ answeredLines fuel text (oneMore text (at s from done left) (nextLine text from))
+      → let r = replyAt text s from in
+      Onward text (r .state) (from + lineLength (drop from text) + 1) (done ++ linesOf r) (drop (length (linesOf r)) left) fuel
+      → Onward text s from done left (suc fuel)
+  unfolding after replies
+  onward-more h e q w =
+      let k = lineLength (drop from text) in
+      let line = take k (drop from text) in
+      let r = replyAt text s from in
+      let a = answersTo (r .state) (w .ls) in
+      let one = one-more text s from k done left h in
+      let n : from + suc k ≡ from + k + 1 = omega arith in
+      record {
+        ls = line ∷ w .ls;
+        to = w .to;
+        same = q ∙ rw (e .found, one, w .same, append-assoc done (linesOf r) a, drop-drop (length a) (length (linesOf r)) left, length-append (linesOf r) a);
+        first = λ more. lines-ended (drop from text) more (e .newline) ∙ rw (drop-drop (suc k) from text, n) (ap (λ (ls : List (List ℕ)). line ∷ ls) (w .first more));
+        all = λ x y. w .all (omega arith) (omega (arith, length-drop (length (linesOf r)) left, length-append (linesOf r) a));
+      }
 
 onward : (text : List ℕ) (s : State) (from : ℕ) (done left : List ℕ) (fuel : ℕ) → Onward text s from done left fuel
 unfolding answeredLines lineLength
 onward text s from done left zero = onward-none text s from done left zero refl λ h r. rw (drop-of-length-le text {i = from} (omega arith))
-onward text s from done left (suc fuel) = go (way (isOver text (at s from done left)))
-    (onward text (answered s (take (lineLength (drop from text)) (drop from text)) 65536 .state) (from + lineLength (drop from text) + 1)
-    (done ++ linesOf (answered s (take (lineLength (drop from text)) (drop from text)) 65536))
-    (drop (length (linesOf (answered s (take (lineLength (drop from text)) (drop from text)) 65536))) left) fuel)
+onward text s from done left (suc fuel) =
+    let r = replyAt text s from in
+    go (way (isOver text (at s from done left)))
+    (onward text (r .state) (from + lineLength (drop from text) + 1) (done ++ linesOf r) (drop (length (linesOf r)) left) fuel)
   where
     go : Way (isOver text (at s from done left))
-        → let r = answered s (take (lineLength (drop from text)) (drop from text)) 65536 in
+        → let r = replyAt text s from in
         Onward text (r .state) (from + lineLength (drop from text) + 1) (done ++ linesOf r) (drop (length (linesOf r)) left) fuel
         → Onward text s from done left (suc fuel)
     go (is e) w =

@@ -31,11 +31,15 @@ abbrev pub behind : Line → ℕ
 behind (Found stop next) = next
 behind End = 0
 
+-- the bytes of that line of `text`, where `from` bytes are read: those before its newline
+abbrev pub lineOf : List ℕ → ℕ → Line → List ℕ
+lineOf text from l = take (stopOf l - from) (drop from text)
+
 -- that line is one more call, and the rest of the output is lent to it
 unfoldable pub oneMore : List ℕ → Batch → Line → Batch
 oneMore text b l =
     let left = drop (b .written) (b .out) in
-    let r = answered (b .state) (take (stopOf l - b .read) (drop (b .read) text)) (length left) in
+    let r = answered (b .state) (lineOf text (b .read) l) (length left) in
     record {
       state = r .state;
       read = behind l;

@@ -1,4 +1,4 @@
--- Input that arrives in pieces, answered as it arrives. `pieces::turn` cites `afterEvent` and `finished`. Proved in proofs/Stream: however the input
+-- Input that arrives in pieces, answered as it arrives. What `pieces::advance` cites rests on it. Proved in proofs/Stream: however the input
 -- is cut, what is written are the answers to its lines. Assumes nothing.
 use Prim.Native.Nat.{ℕ, _≤_, _<_}
 use mathlib.Core.Path.{_≡_}
@@ -24,15 +24,20 @@ pub record Stream : Type 0 where
 abbrev pub hasLine : List ℕ → Bool
 hasLine l = ltb (lineLength l) (length l)
 
--- what is kept of the unread bytes l: of a line whose newline has not come the first 401 bytes, which are too many for a form
+-- so many bytes are too many for a form, whatever follows them in their line
+abbrev pub tooLong : ℕ
+tooLong = 401
+
+-- what is kept of the unread bytes l: of a line whose newline has not come no more than shows that it is too long
 abbrev pub kept : List ℕ → List ℕ
-kept l = cond (hasLine l) l (take 401 l)
+kept l = cond (hasLine l) l (take tooLong l)
 
 -- a piece of the input arrives, or an output is lent and then written
 pub data Event : Type 0 where
   arrives : List ℕ → Event
   lent : List ℕ → Event
 
+-- the stream t after an event: a piece stands behind the unread bytes; into an output lines of them are answered, as far as it has room
 abbrev pub afterEvent : Stream → Event → Stream
 afterEvent t (arrives piece) = record { state = t .state; unread = t .unread ++ piece; written = t .written }
 afterEvent t (lent out) =
@@ -49,7 +54,7 @@ inputOf [] = []
 inputOf (arrives piece ∷ es) = piece ++ inputOf es
 inputOf (lent out ∷ es) = inputOf es
 
--- the end of the input: what is unread is a line, "an empty tail is no line"
+-- the reply at the end of the input: what is unread is a line, "an empty tail is no line"
 abbrev pub finished : State → List ℕ → ℕ → Reply
 finished s tail size = cond (eqb (length tail) 0) (record { state = s; answers = []; refusal = none }) (answered s tail size)
 
@@ -68,7 +73,7 @@ pub record Streams : Type 0 where
       let r = finished (t .state) (t .unread) size in
       NoNewline (t .unread) → 65536 ≤ size
       → (t .written ++ linesOf r ≡ answersTo s (lines (inputOf es))) × (r .state ≡ afterLines s (lines (inputOf es)))
-  -- an output with room for a call has the next line answered, and no more than 401 bytes are kept of an unfinished one
+  -- an output with room for a call has the next line answered, and of an unfinished one at most `tooLong` bytes are kept
   pub shorter : (t : Stream) (out : List ℕ) → hasLine (t .unread) ≡ true → 65536 ≤ length out
       → length (afterEvent t (lent out) .unread) < length (t .unread)
-  pub bounded : (l : List ℕ) → NoNewline l → length (kept l) ≤ 401
+  pub bounded : (l : List ℕ) → NoNewline l → length (kept l) ≤ tooLong
