@@ -1,4 +1,6 @@
 -- Laws that belong to no one function.
 pub mod Spans
-pub mod Turns
+pub mod Lines
+pub mod Steps
+pub mod Inside
 pub mod Run

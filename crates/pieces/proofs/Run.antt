@@ -1,27 +1,62 @@
 -- The loop writes the answers to the lines of its input. `runs` is the promise. Assumes nothing.
 use mathlib.Core.Path.{_≡_, refl, sym, ap, _∙_}
-use mathlib.Core.Bool.{true, false, cond}
+use mathlib.Core.Bool.{true, false}
 use mathlib.Core.List.{List, [], _∷_, _++_, append-assoc, append-nil}
-use Prim.Native.Nat.{ℕ, _+_, _-_, _≤_}
+use Prim.Native.Nat.{ℕ, _+_, _-_, _≤_, min}
 use native.Mathlib.Omega.{arith}
-use borrow.Author.Tests.{ltb-false}
 use lib.ListN.{length, take, drop}
-use lib.Seq.{take-append-seam}
-use Rattle.calculus.specs.declared.state.State as state
+use lib.Seq.{take-append-seam, drop-drop, slice}
 use Rattle.calculus.proofs.Tests.{Way, is, isnt, way, clash, both}
 use Rattle.forms.specs.Line.{lineLength, lines}
 use Rattle.model.specs.Lists.{fold}
 use Rattle.model.specs.State.{fresh}
 use Rattle.model.specs.Calls.{linesOf}
+use Rattle.model.specs.Batch.{answeredText}
 use Rattle.model.specs.Texts.{NoNewline, afterLines, answersTo}
-use Rattle.model.specs.Stream as model
-use Rattle.model.specs.Stream.{Event, arrives, lent, afterEvent, streamed, inputOf, hasLine, finished}
-use Rattle.model.proofs.Texts.{lineLength-most}
+use Rattle.model.specs.Stream.{Stream, Event, arrives, lent, afterEvent, streamed, inputOf, hasLine, tooLong, kept, finished}
 use Rattle.model.proofs.Stream.{streams}
-use Rattle.pieces.specs.declared.Stream.{Stream}
-use Rattle.pieces.specs.Turn.{unread, held, Starts, Advances, Finishes}
-use Rattle.pieces.specs.Run.{Run, begun, went, Runs}
-use Rattle.pieces.proofs.Spans.{unread-front}
+use Rattle.pieces.specs.declared.Progress.{Progress}
+use Rattle.pieces.specs.Progress.{started, streamOf, isEnd, Advanced, lineLeft, noLineLeft, answeredInto, ended, advanced}
+use Rattle.pieces.specs.Run.{writtenBy, Run, begun, went, Runs}
+use Rattle.pieces.proofs.Spans.{part-again, part-more}
+use Rattle.pieces.proofs.Lines.{no-newline, all-kept, kept-none}
+use Rattle.pieces.proofs.Steps.{into-line, into-none}
+
+-- ---- what a step leaves holds the stream
+
+-- a holds the stream t, and what t wrote
+record Holds (t : Stream) (a : Advanced) : Type 0 where
+  pub stream : streamOf (a .progress) (a .input) ≡ record { state = t .state; unread = t .unread; written = [] }
+  pub written : writtenBy a ≡ t .written
+  pub none : a .progress .wants ≡ true → NoNewline (t .unread)
+  pub bounded : a .progress .wants ≡ true → a .progress .to ≤ tooLong
+
+module _ (s : Stream) (from to : ℕ) (l out : List ℕ) (k : to ≤ length l) (e : s .unread ≡ slice from to l) where
+  answered-holds : Holds (afterEvent s (lent out)) (answeredInto s to l out)
+  answered-holds = go (way (hasLine (afterEvent s (lent out) .unread)))
+    where
+      go : Way (hasLine (afterEvent s (lent out) .unread)) → Holds (afterEvent s (lent out)) (answeredInto s to l out)
+      go (is g) =
+          let t = afterEvent s (lent out) in
+          let read = answeredText (s .state) (s .unread) out .read in
+          let u : t .unread ≡ slice (from + read) to l = all-kept (drop read (s .unread)) g ∙ ap (drop read) e ∙ drop-drop read from (take to l) in
+          rw (into-line s to l out refl g)
+          (record {
+            stream = ap {B = Stream} (λ (u : List ℕ). record { state = t .state; unread = u; written = [] }) (part-again (t .unread) l (from + read) to k u);
+            written = take-append-seam (t .written) (drop (length (t .written)) out);
+            none = λ q. clash cc;
+            bounded = λ q. clash cc;
+          })
+      go (isnt g) =
+          let t = afterEvent s (lent out) in
+          let rest = drop (answeredText (s .state) (s .unread) out .read) (s .unread) in
+          rw (into-none s to l out refl g)
+          (record {
+            stream = ap {B = Stream} (λ (u : List ℕ). record { state = t .state; unread = u; written = [] }) (take-append-seam (t .unread) (drop (length (t .unread)) l));
+            written = take-append-seam (t .written) (drop (length (t .written)) out);
+            none = λ q. no-newline (t .unread) g;
+            bounded = λ q. streams .bounded rest (no-newline rest (kept-none rest g));
+          })
 
 -- ---- events one after the other
 
@@ -36,54 +71,58 @@ input-append (lent out ∷ es) fs = input-append es fs
 
 -- ---- a run is a list of events
 
-record Followed (input written l : List ℕ) (s : Stream) : Type 0 where
+record Followed (input written l : List ℕ) (p : Progress) : Type 0 where
   pub events : List Event
-  pub stream : streamed fresh events ≡ held l written s
+  pub stream : streamed fresh events ≡ record { state = p .state; unread = slice (p .from) (p .to) l; written = written }
   pub came : inputOf events ≡ input
-  pub wants : s .wants ≡ true → NoNewline (unread (s .from) (s .to) l)
+  pub none : p .wants ≡ true → NoNewline (slice (p .from) (p .to) l)
+  pub bounded : p .wants ≡ true → p .to ≤ tooLong
 
-no-line : (u : List ℕ) → true ≡ cond (hasLine u) false true → NoNewline u
-no-line u = go (way (hasLine u))
-  where
-    go : Way (hasLine u) → true ≡ cond (hasLine u) false true → NoNewline u
-    go (is e) q = clash (let z : true ≡ false = rw e at q in cc)
-    go (isnt e) q = omega (arith, lineLength-most u, ltb-false (lineLength u) (length u) e)
-
-followed-more : {input written l : List ℕ} {s : Stream} → Followed input written l s → (l₁ out l₂ left : List ℕ) (got : ℕ) {r : Stream}
-    → take (s .to) l₁ ≡ take (s .to) l
-    → Advances (s .state) (unread (s .from) (s .to) l₁ ++ take got (drop (s .to) l₁)) out l₂ left r
-    → Followed (input ++ take got (drop (s .to) l₁)) (written ++ take (r .written) left) l₂ r
-followed-more {input} {written} {l} {s} w l₁ out l₂ left got {r} e a =
-    let p = take got (drop (s .to) l₁) in
-    let same : unread (s .from) (s .to) l₁ ≡ unread (s .from) (s .to) l = unread-front (s .from) (s .to) l₁ l e in
-    record {
-      events = w .events ++ (arrives p ∷ lent out ∷ []);
-      stream = fold-append afterEvent (record { state = fresh; unread = []; written = [] }) (w .events) (arrives p ∷ lent out ∷ []) ∙ rw (w .stream, ← same)
-          (ap {B = model.Stream} (λ (t : model.Stream). record { state = t .state; unread = t .unread; written = written ++ t .written }) (sym (a .same)));
-      came = input-append (w .events) (arrives p ∷ lent out ∷ []) ∙ rw (w .came, append-nil p);
-      wants = λ q. no-line (unread (r .from) (r .to) l₂) (sym q ∙ a .wants);
-    }
-
-begun-none : (l : List ℕ) (s : Stream) → Starts s → NoNewline (unread (s .from) (s .to) l)
+followed-none : (l : List ℕ) → Followed [] [] l started
 unfolding lineLength
-begun-none l s b =
-    let e : unread (s .from) (s .to) l ≡ [] = ap (λ (t : model.Stream). t .unread) (b .fresh l) in
-    rw e
+followed-none l = record { events = []; stream = refl; came = refl; none = λ q. refl; bounded = λ q. omega arith }
 
-followed : {input written l : List ℕ} {s : Stream} → Run input written l s → Followed input written l s
-followed (begun l {s} b) = record { events = []; stream = sym (b .fresh l); came = refl; wants = λ q. begun-none l s b }
-followed (went w l₁ out l₂ left got e f t) = followed-more (followed w) l₁ out l₂ left got e (t .more f)
+module _ {input written l : List ℕ} {p : Progress} (w : Followed input written l p) (l₁ out : List ℕ) (got : ℕ) (e : take (p .to) l₁ ≡ take (p .to) l) where
+  -- a piece comes and an output is lent
+  followed-holds : (a : Advanced) → let piece = take got (drop (p .to) l₁) in Holds (afterEvent (afterEvent (streamOf p l₁) (arrives piece)) (lent out)) a
+      → Followed (input ++ piece) (written ++ writtenBy a) (a .input) (a .progress)
+  followed-holds a h =
+      let piece = take got (drop (p .to) l₁) in
+      let es = arrives piece ∷ lent out ∷ [] in
+      let t = afterEvent (afterEvent (streamOf p l₁) (arrives piece)) (lent out) in
+      record {
+        events = w .events ++ es;
+        stream = fold-append afterEvent (record { state = fresh; unread = []; written = [] }) (w .events) es ∙ rw (w .stream, ← e, h .written)
+            (ap {B = Stream} (λ (x : Stream). record { state = x .state; unread = x .unread; written = written ++ t .written }) (sym (h .stream)));
+        came = input-append (w .events) es ∙ rw (w .came, append-nil piece);
+        none = λ q. rw (ap (λ (x : Stream). x .unread) (h .stream)) (h .none q);
+        bounded = h .bounded;
+      }
 
-run-ended : {input written l : List ℕ} {s : Stream} → Followed input written l s → (l₁ out left : List ℕ) {r : Stream}
-    → take (s .to) l₁ ≡ take (s .to) l → s .wants ≡ true → 65536 ≤ length out → Finishes (s .state) (unread (s .from) (s .to) l₁) out left r
-    → (written ++ take (r .written) left ≡ answersTo fresh (lines input)) × (r .state ≡ afterLines fresh (lines input)) × (r .over ≡ true)
-run-ended {input} {written} {l} {s} w l₁ out left {r} e q h a =
-    let same : unread (s .from) (s .to) l₁ ≡ unread (s .from) (s .to) l = unread-front (s .from) (s .to) l₁ l e in
-    let m = finished (s .state) (unread (s .from) (s .to) l) (length out) in
-    let all = (rw (w .stream, w .came) at (streams .ended fresh (w .events) (length out))) (w .wants q) h in
-    let b : Finishes (s .state) (unread (s .from) (s .to) l) out left r = rw same at a in
-    let front : take (r .written) left ≡ linesOf m = rw (b .written, b .output) (take-append-seam (linesOf m) (drop (length (linesOf m)) out)) in
-    (rw front (all .0), b .state ∙ all .1, b .over)
+  followed-more : isEnd p got ≡ false
+      → Followed (input ++ take got (drop (p .to) l₁)) (written ++ writtenBy (advanced p got l₁ out)) (advanced p got l₁ out .input) (advanced p got l₁ out .progress)
+  unfolding advanced
+  followed-more f =
+      followed-holds (advanced p got l₁ out)
+      (rw f (answered-holds (afterEvent (streamOf p l₁) (arrives (take got (drop (p .to) l₁)))) (min (p .from) (min (p .to) (length l₁))) (min (p .to + got) (length l₁)) l₁ out
+      (omega arith) (sym (part-more (p .from) (p .to) got l₁))))
+
+  followed-ended : isEnd p got ≡ true → 65536 ≤ length out
+      → let a = advanced p got l₁ out in
+      (written ++ writtenBy a ≡ answersTo fresh (lines input)) × (a .progress .state ≡ afterLines fresh (lines input)) × (a .progress .over ≡ true)
+  unfolding advanced ended
+  followed-ended f h =
+      let m = finished (p .state) (slice (p .from) (p .to) l) (length out) in
+      let all = (rw (w .stream, w .came) at (streams .ended fresh (w .events) (length out))) (w .none (both _ _ f .0)) h in
+      rw (f, e) (rw (take-append-seam (linesOf m) (drop (length (linesOf m)) out)) (all .0), all .1, refl)
+
+followed : {input written l : List ℕ} {p : Progress} → Run input written l p → Followed input written l p
+followed (begun l) = followed-none l
+followed (went w l₁ out got e f) = followed-more (followed w) l₁ out got e f
 
 pub runs : Runs
-runs = record { ended = λ w l₁ out l₂ left got e f h t. run-ended (followed w) l₁ out left e (both _ _ f .0) h (t .last f) }
+runs =
+    record {
+      ended = λ w l₁ out got e f h. followed-ended (followed w) l₁ out got e f h;
+      bounded = λ w q. followed w .bounded q;
+    }

@@ -1,4 +1,4 @@
-// Input that comes in pieces, answered as it comes. The bytes that came stand in a buffer that the caller lends; a turn answers
+// Input that comes in pieces, answered as it comes. The bytes that came stand in a buffer that the caller lends; a step answers
 // lines of them, and keeps at the buffer's front what stays of a line whose newline has not come.
 use calculus::state::State;
 use forms::line::Line;
@@ -13,14 +13,14 @@ ghost use lib.Dec.{eqb};
 ghost use lib.ListN.{length};
 ghost use Rattle.model.specs.Stream.{hasLine};
 ghost use Rattle.pieces.specs.Keep.{Keeps};
-ghost use Rattle.pieces.specs.Turn.{unread, Starts, Advances, Finishes, Turns};
+ghost use Rattle.pieces.specs.Progress.{started, streamOf, filled, ended, answeredInto, advanced, Advances};
 
 // So many bytes are too many for a form, whatever follows them in their line.
 const TOO_LONG: usize = 401;
 
 // How far the input is answered: the state; the bytes of the buffer from `from` to `to` came and are not read; whether more of
-// the input is wanted, or it is over; how many bytes of the output the last turn wrote.
-pub struct Stream {
+// the input is wanted, or it is over; how many bytes of the output the last step wrote.
+pub struct Progress {
     pub state: State,
     pub from: usize,
     pub to: usize,
@@ -60,17 +60,37 @@ fn has_line(text: &[u8]) -> bool
     }
 }
 
-// Answers lines of the bytes from `from` to `to`, as many as the output has room for.
-fn answer(s: State, input: &mut [u8], from: usize, to: usize, out: &mut [u8]) -> Stream
-    requires { ⌜ (from ≤ to) × (to ≤ length (now input)) ⌝ }
-    ensures { λ r. ⌜ Advances s (unread from to (now (input .entry))) (now (out .entry)) (now (input .exit)) (now (out .exit)) r ⌝ }
+// `got` bytes more came behind those of `p`. Its places are put into the buffer, of `size` bytes.
+fn fill(p: Progress, got: usize, size: usize) -> Progress
+    ensures { λ r. ⌜ r ≡ filled p got size ⌝ }
 {
-    let answered = calls(s, &input[from..to], out);
+    let state = p.state;
+    let to = least(p.to, size);
+    let from = least(p.from, to);
+    let more = least(got, size - to);
+    Progress {
+        state,
+        from,
+        to: to + more,
+        wants: p.wants,
+        over: p.over,
+        written: p.written,
+    }
+}
+
+// Answers lines of the unread bytes, as many as the output has room for.
+fn answer(p: Progress, input: &mut [u8], out: &mut [u8]) -> Progress
+    requires { ⌜ (p .from ≤ p .to) × (p .to ≤ length (now input)) ⌝ }
+    ensures { λ r. ⌜ Advances (answeredInto (streamOf p (now (input .entry))) (p .to) (now (input .entry)) (now (out .entry))) (now (input .exit)) (now (out .exit)) r ⌝ }
+{
+    let from = p.from;
+    let to = p.to;
+    let answered = calls(p.state, &input[from..to], out);
     let state = answered.state;
     let written = answered.written;
     let next = from + answered.read;
     if has_line(&input[next..to]) {
-        return Stream {
+        return Progress {
             state,
             from: next,
             to,
@@ -80,7 +100,7 @@ fn answer(s: State, input: &mut [u8], from: usize, to: usize, out: &mut [u8]) ->
         };
     }
     let kept = keep(input, next, to);
-    Stream {
+    Progress {
         state,
         from: 0,
         to: kept,
@@ -90,13 +110,18 @@ fn answer(s: State, input: &mut [u8], from: usize, to: usize, out: &mut [u8]) ->
     }
 }
 
-// The end of the input: the tail is a line too, if it is not empty.
-fn finish(s: State, tail: &[u8], out: &mut [u8]) -> Stream
-    ensures { λ r. ⌜ Finishes s (now (tail .entry)) (now (out .entry)) (now (out .exit)) r ⌝ }
+// The end of the input: the unread bytes are a line too, if there are any.
+fn finish(p: Progress, input: &[u8], out: &mut [u8]) -> Progress
+    requires { ⌜ (p .from ≤ p .to) × (p .to ≤ length (now input)) ⌝ }
+    ensures { λ r. ⌜ Advances (ended (streamOf p (now (input .entry))) (now (input .entry)) (now (out .entry))) (now (input .entry)) (now (out .exit)) r ⌝ }
 {
-    if tail.len() == 0 {
-        return Stream {
-            state: s,
+    let from = p.from;
+    let to = p.to;
+    let size = to - from;
+    if size == 0 {
+        let state = p.state;
+        return Progress {
+            state,
             from: 0,
             to: 0,
             wants: false,
@@ -104,10 +129,10 @@ fn finish(s: State, tail: &[u8], out: &mut [u8]) -> Stream
             written: 0,
         };
     }
-    let reply = call(s, tail, out);
+    let reply = call(p.state, &input[from..to], out);
     let state = reply.state;
     let written = reply.written;
-    Stream {
+    Progress {
         state,
         from: 0,
         to: 0,
@@ -126,12 +151,12 @@ fn is_end(wants: bool, got: usize) -> bool
     false
 }
 
-// A stream of which nothing came yet.
-pub fn start() -> Stream
-    ensures { λ r. ⌜ Starts r ⌝ }
+// Nothing came yet.
+pub fn start() -> Progress
+    ensures { λ r. ⌜ r ≡ started ⌝ }
 {
     let state = fresh();
-    Stream {
+    Progress {
         state,
         from: 0,
         to: 0,
@@ -141,17 +166,13 @@ pub fn start() -> Stream
     }
 }
 
-// A turn: `got` bytes came behind those in the buffer, none at the end of the input. Answers what can be answered.
-pub fn turn(stream: Stream, input: &mut [u8], got: usize, out: &mut [u8]) -> Stream
-    ensures { λ r. ⌜ Turns stream got (now (input .entry)) (now (out .entry)) (now (input .exit)) (now (out .exit)) r ⌝ }
+// A step: `got` bytes came behind those in the buffer, none at the end of the input. Answers what can be answered.
+pub fn advance(p: Progress, input: &mut [u8], got: usize, out: &mut [u8]) -> Progress
+    ensures { λ r. ⌜ Advances (advanced p got (now (input .entry)) (now (out .entry))) (now (input .exit)) (now (out .exit)) r ⌝ }
 {
-    let size = input.len();
-    let to = least(stream.to, size);
-    let from = least(stream.from, to);
-    let s = stream.state;
-    if is_end(stream.wants, got) {
-        return finish(s, &input[from..to], out);
+    let came = fill(p, got, input.len());
+    if is_end(p.wants, got) {
+        return finish(came, input, out);
     }
-    let filled = to + least(got, size - to);
-    answer(s, input, from, filled, out)
+    answer(came, input, out)
 }

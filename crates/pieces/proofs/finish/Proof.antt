@@ -1,20 +1,30 @@
 -- `finish` meets its contract. Assumes nothing.
-use Rattle.pieces.proofs.Turns.{finishes-none, finishes-call}
+use native.Mathlib.Omega.{arith}
 use borrow.Author.Needs.{needs}
+use Rattle.pieces.proofs.Steps.{finish-none, finish-call}
 use Rattle.pieces.proofs.finish.Statement.{statement}
 use Rattle.pieces.proofs.finish.Tie as tie
 
 returns : tie.Need-returns
-returns c = finishes-none _ _ _ (c .if1 .taken)
-
-call-requires : tie.Need-call-requires
-call-requires c κs = search needs
-
-same-length : tie.Need-same-length
-same-length c = search needs
+returns c =
+    let start = c .before .before .before .before in
+    finish-none (start .args .p) _ _ (start .pre .1) (omega arith)
 
 returns-2 : tie.Need-returns-2
-returns-2 c = finishes-call _ _ _ (c .before .before .before .before .before .if1 .left) (c .before .before .before .call .ensures)
+returns-2 c =
+    let called = c .before .before .before in
+    let start = called .before .before .before .before .before .before in
+    finish-call (start .args .p) _ _ (start .pre .1) (λ q. omega arith) (called .call .ensures)
 
 pub finish-spec : {M : Type 1} → statement M
-finish-spec = tie.close (tie.spec returns call-requires same-length returns-2)
+finish-spec =
+    tie.close
+    (tie.spec
+    (λ c. search needs)
+    returns
+    (λ c. search needs)
+    (λ c. search needs)
+    (λ c. search needs)
+    (λ c κs. search needs)
+    (λ c. search needs)
+    returns-2)

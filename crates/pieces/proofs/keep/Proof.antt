@@ -1,17 +1,17 @@
--- `keep` meets its contract: what a turn of its loop reads stands behind what the turns before wrote. Assumes nothing.
+-- `keep` meets its contract: what a round of its loop reads stands behind what the rounds before wrote. Assumes nothing.
 use mathlib.Core.Path.{_≡_, sym, ap, _∙_}
-use mathlib.Core.List.{List}
+use mathlib.Core.List.{List, _++_}
 use Prim.Native.Nat.{ℕ, _+_, _-_, _≤_, _<_}
 use borrow.Author.Needs.{needs}
 use native.Mathlib.Nat.{zero-add}
 use native.Mathlib.Omega.{arith}
 use lib.ListN.{length, getD, set, take, drop, length-drop}
-use lib.Seq.{getD-drop, drop-paste, take-paste}
+use lib.Seq.{getD-drop, drop-paste}
 use Rattle.simulator.proofs.Copies.{Loaded, loaded-none, loaded-more, stored-all}
 use Rattle.pieces.proofs.keep.Statement.{statement}
 use Rattle.pieces.proofs.keep.Tie as tie
 
--- of n turns i are done: m is l with its first i bytes replaced by those of l from `from` on
+-- of n rounds i are done: m is l with its first i bytes replaced by those of l from `from` on
 module _ {l m : List ℕ} {from n i : ℕ} (w : Loaded l from l n m i) (k : from + n ≤ length l) where
   rest-same : drop i m ≡ drop i l
   rest-same =
@@ -24,10 +24,8 @@ module _ {l m : List ℕ} {from n i : ℕ} (w : Loaded l from l n m i) (k : from
       let byte : getD m (from + i) 0 ≡ getD l (from + i) 0 = simp flip (sym (getD-drop i m from 0) ∙ ap (λ (x : List ℕ). getD x from 0) rest-same ∙ getD-drop i l from 0) in
       rw byte (loaded-more w 0 h (omega arith) k)
 
-  moved-all : n ≤ i → take n m ≡ take n (drop from l)
-  moved-all h =
-      let j : n ≤ length (drop from l) = simp length-drop (omega arith) in
-      rw (stored-all (w .stored) h, zero-add) (rw zero-add at (take-paste l 0 (drop from l) n (omega arith) j))
+  moved-all : n ≤ i → m ≡ take n (drop from l) ++ drop n l
+  moved-all h = rw zero-add at (stored-all (w .stored) h)
 
 abbrev Inv-loop : tie.InvT-loop
 Inv-loop input₀ from to n i₀ input i = (length input ≡ length input₀) × Loaded input₀ from input₀ n input i
