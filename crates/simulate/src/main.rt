@@ -2,8 +2,8 @@
 // what it makes of its input is `pieces`'.
 use libc::STDIN_FILENO;
 use libc::STDOUT_FILENO;
+use pieces::advance;
 use pieces::start;
-use pieces::turn;
 ghost use Prim.Native.Nat.{_≤_};
 ghost use lib.ListN.{length};
 
@@ -27,18 +27,18 @@ fn write_out(out: &[u8], over: bool) -> bool {
     false
 }
 
-// A proved loop has to end, and nothing says that the input does: so the turns are counted, down from a number that no run
+// A proved loop has to end, and nothing says that the input does: so the rounds are counted, down from a number that no run
 // uses up.
 fn run(input: &mut [u8], out: &mut [u8]) {
-    let mut stream = start();
+    let mut progress = start();
     let mut going = true;
-    let mut turns = u64::MAX;
-    while turns > 0 && going {
-        let got = read_more(input, stream.to, stream.wants);
-        stream = turn(stream, input, got, out);
-        let written = stream.written;
-        going = write_out(&out[..written], stream.over);
-        turns -= 1;
+    let mut rounds = u64::MAX;
+    while rounds > 0 && going {
+        let got = read_more(input, progress.to, progress.wants);
+        progress = advance(progress, input, got, out);
+        let written = progress.written;
+        going = write_out(&out[..written], progress.over);
+        rounds -= 1;
     }
 }
 

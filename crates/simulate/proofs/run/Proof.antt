@@ -1,66 +1,24 @@
--- `run` is safe and ends: the turns left fall. Assumes nothing.
+-- `run` is safe and ends: the rounds left fall. Assumes nothing.
 use Prim.Native.Nat.{_≤_}
 use mathlib.Core.Path.{_≡_, sym}
+use native.Mathlib.Omega.{arith}
 use borrow.Author.Needs.{needs}
 use lib.ListN.{length}
 use lib.Seq.{length-take-le}
+use Rattle.pieces.proofs.Inside.{advance-inside}
 use Rattle.simulate.proofs.run.Statement.{statement}
 use Rattle.simulate.proofs.run.Tie as tie
 
 abbrev Inv-loop : tie.InvT-loop
-Inv-loop input₀ out₀ stream₀ going₀ turns₀ input out stream going turns =
-    (length input ≡ length input₀) × (length out ≡ length out₀) × (stream .to ≤ length input)
+Inv-loop input₀ out₀ progress₀ going₀ rounds₀ input out progress going rounds =
+    (length input ≡ length input₀) × (length out ≡ length out₀) × (progress .to ≤ length input)
 
 abbrev μ-loop : tie.MeasureT-loop
-μ-loop input₀ out₀ stream₀ going₀ turns₀ input out stream going turns = turns
+μ-loop input₀ out₀ progress₀ going₀ rounds₀ input out progress going rounds = rounds
 
-start-requires : tie.Need-start-requires Inv-loop μ-loop
-start-requires c κs = search needs
-
-loop-holds : tie.Need-loop-holds Inv-loop μ-loop
-loop-holds c = search needs
-
-read-more-requires : tie.Need-read-more-requires Inv-loop μ-loop
-read-more-requires c κs = search needs
-
-turn-requires : tie.Need-turn-requires Inv-loop μ-loop
-turn-requires c κs = search needs
-
-slice-reshare-prefix-write-out : tie.Need-slice-reshare-prefix-write-out Inv-loop μ-loop
-slice-reshare-prefix-write-out c = search needs
-
-slice-aggregate-write-out : tie.Need-slice-aggregate-write-out Inv-loop μ-loop
-slice-aggregate-write-out c = sym (length-take-le _ _ (c .before .before .before .before .before .turn .ensures .fits))
-
-write-out-requires : tie.Need-write-out-requires Inv-loop μ-loop
-write-out-requires c κs = search needs
-
-sub-turns : tie.Need-sub-turns Inv-loop μ-loop
-sub-turns c = search needs
-
-loop-less : tie.Need-loop-less Inv-loop μ-loop
-loop-less c = search needs
-
-loop-again : tie.Need-loop-again Inv-loop μ-loop
-loop-again c = search needs
-
-same-length : tie.Need-same-length Inv-loop μ-loop
-same-length c = search needs
-
-same-length-2 : tie.Need-same-length-2 Inv-loop μ-loop
-same-length-2 c = search needs
-
-returns : tie.Need-returns Inv-loop μ-loop
-returns c = search needs
-
-same-length-3 : tie.Need-same-length-3 Inv-loop μ-loop
-same-length-3 c = search needs
-
-same-length-4 : tie.Need-same-length-4 Inv-loop μ-loop
-same-length-4 c = search needs
-
-returns-2 : tie.Need-returns-2 Inv-loop μ-loop
-returns-2 c = search needs
+-- what is unread is inside the buffer, and what is written inside the output
+inside : (c : tie.After-advance Inv-loop μ-loop) → (c .advance .result .to ≤ length (c .advance .last .1 .0)) × (c .advance .result .written ≤ length (c .advance .last .1 .1 .1 .0))
+inside c = advance-inside _ _ _ _ (c .advance .ensures)
 
 pub run-spec : {M : Type 1} → statement M
 run-spec =
@@ -68,19 +26,19 @@ run-spec =
     (tie.spec
     Inv-loop
     μ-loop
-    start-requires
-    loop-holds
-    read-more-requires
-    turn-requires
-    slice-reshare-prefix-write-out
-    slice-aggregate-write-out
-    write-out-requires
-    sub-turns
-    loop-less
-    loop-again
-    same-length
-    same-length-2
-    returns
-    same-length-3
-    same-length-4
-    returns-2)
+    (λ c κs. search needs)
+    (λ c. (search needs, search needs, rw (c .start .ensures) (omega arith)))
+    (λ c κs. search needs)
+    (λ c κs. search needs)
+    (λ c. inside (c .before .before .before .before) .1)
+    (λ c. sym (length-take-le _ _ (inside (c .before .before .before .before .before) .1)))
+    (λ c κs. search needs)
+    (λ c. search needs)
+    (λ c. search needs)
+    (λ c. (search needs, search needs, inside (c .before .before .before .before .before .before) .0))
+    (λ c. search needs)
+    (λ c. search needs)
+    (λ c. search needs)
+    (λ c. search needs)
+    (λ c. search needs)
+    (λ c. search needs))
