@@ -1,6 +1,7 @@
 -- Laws that belong to no one function.
 pub mod Spans
 pub mod Lines
+pub mod Lent
 pub mod Steps
 pub mod Inside
 pub mod Run

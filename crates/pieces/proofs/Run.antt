@@ -20,7 +20,7 @@ use Rattle.pieces.specs.Progress.{started, streamOf, isEnd, Advanced, li
 use Rattle.pieces.specs.Run.{writtenBy, Run, begun, went, Runs}
 use Rattle.pieces.proofs.Spans.{part-again, part-more}
 use Rattle.pieces.proofs.Lines.{no-newline, all-kept, kept-none}
-use Rattle.pieces.proofs.Steps.{into-line, into-none}
+use Rattle.pieces.proofs.Lent.{into-line, into-none}
 
 -- ---- what a step leaves holds the stream
 

@@ -4,7 +4,7 @@ use native.Mathlib.Omega.{arith}
 use borrow.Author.Needs.{needs}
 use lib.ListN.{length}
 use Rattle.calculus.proofs.Tests.{join}
-use Rattle.pieces.proofs.Steps.{calls-inside, answer-line, answer-none}
+use Rattle.pieces.proofs.Lent.{calls-inside, answer-line, answer-none}
 use Rattle.pieces.proofs.answer.Statement.{statement}
 use Rattle.pieces.proofs.answer.Tie as tie
 
