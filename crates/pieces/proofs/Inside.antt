@@ -3,8 +3,7 @@ use mathlib.Core.List.{List}
 use Prim.Native.Nat.{ℕ, _+_, _≤_, min}
 use native.Mathlib.Omega.{arith}
 use lib.ListN.{length, take, drop, length-append}
-use Rattle.model.specs.Calls.{linesOf}
-use Rattle.model.specs.Stream.{Stream, hasLine, arrives, lent, afterEvent, finished}
+use Rattle.model.specs.Stream.{Stream, hasLine, arrives, lent, afterEvent}
 use Rattle.model.proofs.Checks.{either}
 use Rattle.pieces.specs.declared.Progress.{Progress}
 use Rattle.pieces.specs.Progress.{streamOf, isEnd, Advanced, lineLeft, noLineLeft, answeredInto, ended, advanced, Advances}
@@ -15,9 +14,7 @@ record Inside (a : Advanced) : Type 0 where
 
 ended-inside : (s : Stream) (l out : List ℕ) → Inside (ended s l out)
 unfolding ended
-ended-inside s l out =
-    let w = linesOf (finished (s .state) (s .unread) (length out)) in
-    record { unread = omega arith; written = omega (arith, length-append w (drop (length w) out)) }
+ended-inside s l out = record { unread = omega arith; written = simp length-append (omega arith) }
 
 answered-inside : (s : Stream) (to : ℕ) (l out : List ℕ) → to ≤ length l → Inside (answeredInto s to l out)
 unfolding answeredInto

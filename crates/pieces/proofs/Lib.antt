@@ -5,3 +5,4 @@ pub mod Lent
 pub mod Steps
 pub mod Inside
 pub mod Run
+pub mod Cases

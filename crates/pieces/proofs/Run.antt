@@ -10,10 +10,9 @@ use Rattle.calculus.proofs.Tests.{Way, is, isnt, way, clash, both}
 use Rattle.forms.specs.Line.{lineLength, lines}
 use Rattle.model.specs.Lists.{fold}
 use Rattle.model.specs.State.{fresh}
-use Rattle.model.specs.Calls.{linesOf}
 use Rattle.model.specs.Batch.{answeredText}
 use Rattle.model.specs.Texts.{NoNewline, afterLines, answersTo}
-use Rattle.model.specs.Stream.{Stream, Event, arrives, lent, afterEvent, streamed, inputOf, hasLine, tooLong, kept, finished}
+use Rattle.model.specs.Stream.{Stream, Event, arrives, lent, afterEvent, streamed, inputOf, hasLine, tooLong}
 use Rattle.model.proofs.Stream.{streams}
 use Rattle.pieces.specs.declared.Progress.{Progress}
 use Rattle.pieces.specs.Progress.{started, streamOf, isEnd, Advanced, lineLeft, noLineLeft, answeredInto, ended, advanced}
@@ -112,9 +111,8 @@ module _ {input written l : List ℕ} {p : Progress} (w : Followed input written
       (written ++ writtenBy a ≡ answersTo fresh (lines input)) × (a .progress .state ≡ afterLines fresh (lines input)) × (a .progress .over ≡ true)
   unfolding advanced ended
   followed-ended f h =
-      let m = finished (p .state) (slice (p .from) (p .to) l) (length out) in
       let all = (rw (w .stream, w .came) at (streams .ended fresh (w .events) (length out))) (w .none (both _ _ f .0)) h in
-      rw (f, e) (rw (take-append-seam (linesOf m) (drop (length (linesOf m)) out)) (all .0), all .1, refl)
+      rw (f, e) (rw take-append-seam (all .0), all .1, refl)
 
 followed : {input written l : List ℕ} {p : Progress} → Run input written l p → Followed input written l p
 followed (begun l) = followed-none l

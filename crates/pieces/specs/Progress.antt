@@ -44,7 +44,7 @@ lineLeft t to l out =
       out = t .written ++ drop (length (t .written)) out;
     }
 
--- none is: what is left of a line goes to the front of l, and more is wanted
+-- no whole line is left in the stream t: what is left of one goes to the front of the buffer l, and more is wanted
 abbrev pub noLineLeft : Stream → List ℕ → List ℕ → Advanced
 noLineLeft t l out =
     record {
