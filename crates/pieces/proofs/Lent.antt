@@ -14,9 +14,8 @@ use Rattle.model.proofs.Batch.{text-inside}
 use Rattle.model.proofs.Texts.{texts}
 use Rattle.simulator.specs.declared.calls.Answered.{Answered}
 use Rattle.simulator.specs.Batch.{Answers}
-use Rattle.pieces.specs.declared.Progress.{Progress}
 use Rattle.pieces.specs.Keep.{Keeps}
-use Rattle.pieces.specs.Progress.{streamOf, lineLeft, noLineLeft, answeredInto, Advances}
+use Rattle.pieces.specs.Progress.{streamAt, lineLeft, noLineLeft, answeredInto, Advances}
 use Rattle.pieces.proofs.Spans.{take-least, part}
 use Rattle.pieces.proofs.Lines.{none-kept}
 
@@ -39,48 +38,48 @@ text-output s text out =
     rw e (a .output)
 
 -- where the first line stands that was not answered
-abbrev next : Progress → Answered → ℕ
-next p a = p .from + a .read
+abbrev next : ℕ → Answered → ℕ
+next from a = from + a .read
 
-module _ (p : Progress) (l out left : List ℕ) (a : Answered) (h : p .from ≤ p .to) (k : p .to ≤ length l)
-    (e : Answers left a (answeredText (p .state) (take (p .to - p .from) (drop (p .from) l)) out)) where
+module _ (s : State) (from to : ℕ) (l out left : List ℕ) (a : Answered) (h : from ≤ to) (k : to ≤ length l)
+    (e : Answers left a (answeredText s (take (to - from) (drop from l)) out)) where
   -- the calls, by the definitions' part of the buffer
-  same : Answers left a (answeredText (p .state) (slice (p .from) (p .to) l) out)
+  same : Answers left a (answeredText s (slice from to l) out)
   same = rw part at e
 
-  pub calls-inside : (next p a ≤ p .to) × (a .written ≤ length left)
+  pub calls-inside : (next from a ≤ to) × (a .written ≤ length left)
   calls-inside =
-      let w = text-inside (p .state) (slice (p .from) (p .to) l) out in
-      rw (same .answered, same .output) (omega (arith, w .0, length-slice (p .from) (p .to) l k), w .1)
+      let w = text-inside s (slice from to l) out in
+      rw (same .answered, same .output) (omega (arith, w .0, length-slice from to l k), w .1)
 
   -- the stream as the model has it, by what the calls left
-  after-lent : afterEvent (streamOf p l) (lent out) ≡ record { state = a .state; unread = kept (slice (next p a) (p .to) l); written = take (a .written) left }
-  after-lent = rw (same .answered, same .output, drop-drop _ (p .from) (take (p .to) l))
+  after-lent : afterEvent (streamAt s from to l) (lent out) ≡ record { state = a .state; unread = kept (slice (next from a) to l); written = take (a .written) left }
+  after-lent = rw (same .answered, same .output, drop-drop _ from (take to l))
 
   count : length (take (a .written) left) ≡ a .written
   count = length-take-le (a .written) left (calls-inside .1)
 
   left-after : left ≡ take (a .written) left ++ drop (length (take (a .written) left)) out
-  left-after = rw (count, same .answered, same .output) (text-output (p .state) (slice (p .from) (p .to) l) out)
+  left-after = rw (count, same .answered, same .output) (text-output s (slice from to l) out)
 
-  pub answer-line : hasLine (take (p .to - next p a) (drop (next p a) l)) ≡ true
-      → Advances (answeredInto (streamOf p l) (p .to) l out) l left
-      (record { state = a .state; from = next p a; to = p .to; wants = false; over = false; written = a .written })
+  pub answer-line : hasLine (take (to - next from a) (drop (next from a) l)) ≡ true
+      → Advances (answeredInto (streamAt s from to l) to l out) l left
+      (record { state = a .state; from = next from a; to = to; wants = false; over = false; written = a .written })
   answer-line f =
-      let v = slice (next p a) (p .to) l in
+      let v = slice (next from a) to l in
       let g : hasLine v ≡ true = rw part at f in
-      let t : afterEvent (streamOf p l) (lent out) ≡ record { state = a .state; unread = v; written = take (a .written) left } = after-lent ∙ rw g in
-      let from : p .to - length v ≡ next p a = omega (arith, length-slice (next p a) (p .to) l k, calls-inside .0) in
-      rw (into-line (streamOf p l) (p .to) l out t g) (record { progress = rw (from, count); buffer = refl; output = left-after })
+      let t : afterEvent (streamAt s from to l) (lent out) ≡ record { state = a .state; unread = v; written = take (a .written) left } = after-lent ∙ rw g in
+      let start : to - length v ≡ next from a = omega (arith, length-slice (next from a) to l k, calls-inside .0) in
+      rw (into-line (streamAt s from to l) to l out t g) (record { progress = rw (start, count); buffer = refl; output = left-after })
 
-  pub answer-none : hasLine (take (p .to - next p a) (drop (next p a) l)) ≡ false → {l′ : List ℕ} {n : ℕ} → Keeps l (next p a) (p .to) l′ n
-      → Advances (answeredInto (streamOf p l) (p .to) l out) l′ left
+  pub answer-none : hasLine (take (to - next from a) (drop (next from a) l)) ≡ false → {l′ : List ℕ} {n : ℕ} → Keeps l (next from a) to l′ n
+      → Advances (answeredInto (streamAt s from to l) to l out) l′ left
       (record { state = a .state; from = 0; to = n; wants = true; over = false; written = a .written })
   answer-none f {l′} {n} w =
-      let v = slice (next p a) (p .to) l in
-      let front = take n (drop (next p a) l) in
+      let v = slice (next from a) to l in
+      let front = take n (drop (next from a) l) in
       let g : hasLine v ≡ false = rw part at f in
-      let u : take tooLong v ≡ front = rw (← part (next p a) (p .to) l, take-least tooLong (p .to - next p a) (drop (next p a) l), w .count) in
-      let t : afterEvent (streamOf p l) (lent out) ≡ record { state = a .state; unread = front; written = take (a .written) left } = after-lent ∙ rw (g, u) in
-      let size : length front ≡ n = length-take-le n (drop (next p a) l) (omega (arith, length-drop (next p a) l, w .count, calls-inside .0)) in
-      rw (into-none (streamOf p l) (p .to) l out t (rw u at (none-kept v g))) (record { progress = rw (size, count); buffer = rw size (w .bytes); output = left-after })
+      let u : take tooLong v ≡ front = rw (← part (next from a) to l, take-least tooLong (to - next from a) (drop (next from a) l), w .count) in
+      let t : afterEvent (streamAt s from to l) (lent out) ≡ record { state = a .state; unread = front; written = take (a .written) left } = after-lent ∙ rw (g, u) in
+      let size : length front ≡ n = length-take-le n (drop (next from a) l) (omega (arith, length-drop (next from a) l, w .count, calls-inside .0)) in
+      rw (into-none (streamAt s from to l) to l out t (rw u at (none-kept v g))) (record { progress = rw (size, count); buffer = rw size (w .bytes); output = left-after })

@@ -70,7 +70,11 @@ part-again u l from to k e = rw (e, length-slice from to l k) (go (order from to
         let e : to - (to - from) ≡ to = omega arith in
         rw (e, slice-empty to l, drop-of-length-le (take to l) {i = from} (simp length-take (omega arith)))
 
--- with the places put into the buffer, a part and `got` bytes behind it
+-- a part with its places put into the buffer
+pub part-held : (from to : ℕ) (l : List ℕ) → slice (min from (min to (length l))) (min to (length l)) l ≡ slice from to l
+part-held from to l = rw (take-min to l, ← length-take to l, drop-min from (take to l))
+
+-- and with `got` bytes more behind it
 pub part-more : (from to got : ℕ) (l : List ℕ)
     → slice (min from (min to (length l))) (min (to + got) (length l)) l ≡ slice from to l ++ take got (drop to l)
 part-more from to got l =

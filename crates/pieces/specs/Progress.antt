@@ -7,6 +7,7 @@ use Prim.Native.Nat.{ℕ, _+_, _-_, min}
 use lib.Dec.{eqb}
 use lib.ListN.{length, take, drop}
 use lib.Seq.{slice}
+use Rattle.calculus.specs.declared.state.State.{State}
 use Rattle.model.specs.State.{fresh}
 use Rattle.model.specs.Calls.{linesOf, outputAfter}
 use Rattle.model.specs.Stream.{Stream, hasLine, arrives, lent, afterEvent, finished}
@@ -16,14 +17,13 @@ use Rattle.pieces.specs.declared.Progress.{Progress}
 abbrev pub started : Progress
 started = record { state = fresh; from = 0; to = 0; wants = true; over = false; written = 0 }
 
--- p with the buffer l as a stream of which nothing is written: the bytes of l from `from` up to `to` are unread
-abbrev pub streamOf : Progress → List ℕ → Stream
-streamOf p l = record { state = p .state; unread = slice (p .from) (p .to) l; written = [] }
+-- a stream in the state s of which nothing is written: the bytes of the buffer l from `from` up to `to` are unread
+abbrev pub streamAt : State → ℕ → ℕ → List ℕ → Stream
+streamAt s from to l = record { state = s; unread = slice from to l; written = [] }
 
--- p with `got` bytes more, and with its places put into a buffer of `size` bytes
-abbrev pub filled : Progress → ℕ → ℕ → Progress
-filled p got size =
-    record { state = p .state; from = min (p .from) (min (p .to) size); to = min (p .to + got) size; wants = p .wants; over = p .over; written = p .written }
+-- the stream that p is with the buffer l
+abbrev pub streamOf : Progress → List ℕ → Stream
+streamOf p l = streamAt (p .state) (p .from) (p .to) l
 
 -- the input is at its end: more is wanted, and nothing came
 abbrev pub isEnd : Progress → ℕ → Bool

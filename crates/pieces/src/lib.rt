@@ -13,7 +13,7 @@ ghost use lib.Dec.{eqb};
 ghost use lib.ListN.{length};
 ghost use Rattle.model.specs.Stream.{hasLine};
 ghost use Rattle.pieces.specs.Keep.{Keeps};
-ghost use Rattle.pieces.specs.Progress.{started, streamOf, filled, ended, answeredInto, advanced, Advances};
+ghost use Rattle.pieces.specs.Progress.{started, streamAt, ended, answeredInto, advanced, Advances};
 
 // So many bytes are too many for a form, whatever follows them in their line.
 const TOO_LONG: usize = 401;
@@ -60,31 +60,11 @@ fn has_line(text: &[u8]) -> bool
     }
 }
 
-// `got` bytes more came behind those of `p`. Its places are put into the buffer, of `size` bytes.
-fn fill(p: Progress, got: usize, size: usize) -> Progress
-    ensures { λ r. ⌜ r ≡ filled p got size ⌝ }
+// Answers lines of the bytes from `from` up to `to`, as many as the output has room for.
+fn answer(p: Progress, input: &mut [u8], from: usize, to: usize, out: &mut [u8]) -> Progress
+    requires { ⌜ (from ≤ to) × (to ≤ length (now input)) ⌝ }
+    ensures { λ r. ⌜ Advances (answeredInto (streamAt (p .state) from to (now (input .entry))) to (now (input .entry)) (now (out .entry))) (now (input .exit)) (now (out .exit)) r ⌝ }
 {
-    let state = p.state;
-    let to = least(p.to, size);
-    let from = least(p.from, to);
-    let more = least(got, size - to);
-    Progress {
-        state,
-        from,
-        to: to + more,
-        wants: p.wants,
-        over: p.over,
-        written: p.written,
-    }
-}
-
-// Answers lines of the unread bytes, as many as the output has room for.
-fn answer(p: Progress, input: &mut [u8], out: &mut [u8]) -> Progress
-    requires { ⌜ (p .from ≤ p .to) × (p .to ≤ length (now input)) ⌝ }
-    ensures { λ r. ⌜ Advances (answeredInto (streamOf p (now (input .entry))) (p .to) (now (input .entry)) (now (out .entry))) (now (input .exit)) (now (out .exit)) r ⌝ }
-{
-    let from = p.from;
-    let to = p.to;
     let answered = calls(p.state, &input[from..to], out);
     let state = answered.state;
     let written = answered.written;
@@ -110,13 +90,11 @@ fn answer(p: Progress, input: &mut [u8], out: &mut [u8]) -> Progress
     }
 }
 
-// The end of the input: the unread bytes are a line too, if there are any.
-fn finish(p: Progress, input: &[u8], out: &mut [u8]) -> Progress
-    requires { ⌜ (p .from ≤ p .to) × (p .to ≤ length (now input)) ⌝ }
-    ensures { λ r. ⌜ Advances (ended (streamOf p (now (input .entry))) (now (input .entry)) (now (out .entry))) (now (input .entry)) (now (out .exit)) r ⌝ }
+// The end of the input: the bytes from `from` up to `to` are a line too, if there are any.
+fn finish(p: Progress, input: &[u8], from: usize, to: usize, out: &mut [u8]) -> Progress
+    requires { ⌜ (from ≤ to) × (to ≤ length (now input)) ⌝ }
+    ensures { λ r. ⌜ Advances (ended (streamAt (p .state) from to (now (input .entry))) (now (input .entry)) (now (out .entry))) (now (input .entry)) (now (out .exit)) r ⌝ }
 {
-    let from = p.from;
-    let to = p.to;
     let size = to - from;
     if size == 0 {
         let state = p.state;
@@ -170,9 +148,12 @@ pub fn start() -> Progress
 pub fn advance(p: Progress, input: &mut [u8], got: usize, out: &mut [u8]) -> Progress
     ensures { λ r. ⌜ Advances (advanced p got (now (input .entry)) (now (out .entry))) (now (input .exit)) (now (out .exit)) r ⌝ }
 {
-    let came = fill(p, got, input.len());
+    let size = input.len();
+    let to = least(p.to, size);
+    let from = least(p.from, to);
     if is_end(p.wants, got) {
-        return finish(came, input, out);
+        return finish(p, input, from, to, out);
     }
-    answer(came, input, out)
+    let filled = to + least(got, size - to);
+    answer(p, input, from, filled, out)
 }

@@ -17,8 +17,8 @@ start c = c .before .before .before .before .before .before
 
 -- what was read and written
 inside : (c : tie.After-calls)
-    → (start c .args .p .from + c .calls .result .read ≤ start c .args .p .to) × (c .calls .result .written ≤ length (c .calls .last .1 .1 .0))
-inside c = calls-inside (start c .args .p) _ _ _ _ (start c .pre .0) (start c .pre .1) (c .calls .ensures)
+    → (start c .args .from + c .calls .result .read ≤ start c .args .to) × (c .calls .result .written ≤ length (c .calls .last .1 .1 .0))
+inside c = calls-inside _ _ _ _ _ _ _ (start c .pre .0) (start c .pre .1) (c .calls .ensures)
 
 add-next : tie.Need-add-next
 add-next c = omega (arith, inside (c .before .before .before .before))
@@ -32,7 +32,7 @@ part-has-line-start c = omega (arith, inside (c .before .before .before .before 
 returns : tie.Need-returns
 returns c =
     let a = called (c .before) in
-    answer-line (start a .args .p) _ _ _ _ (start a .pre .0) (start a .pre .1) (a .calls .ensures) (join (c .before .has-line .ensures) (c .if1 .taken))
+    answer-line _ _ _ _ _ _ _ (start a .pre .0) (start a .pre .1) (a .calls .ensures) (join (c .before .has-line .ensures) (c .if1 .taken))
 
 keep-requires : tie.Need-keep-requires
 keep-requires c κs =
@@ -45,7 +45,7 @@ returns-2 c =
     let kept = c .before .before in
     let tested = kept .before .before in
     let a = called (tested .before) in
-    answer-none (start a .args .p) _ _ _ _ (start a .pre .0) (start a .pre .1) (a .calls .ensures) (join (tested .before .has-line .ensures) (tested .if1 .left)) (kept .keep .ensures)
+    answer-none _ _ _ _ _ _ _ (start a .pre .0) (start a .pre .1) (a .calls .ensures) (join (tested .before .has-line .ensures) (tested .if1 .left)) (kept .keep .ensures)
 
 pub answer-spec : {M : Type 1} → statement M
 answer-spec =

@@ -8,13 +8,13 @@ use Rattle.pieces.proofs.finish.Tie as tie
 returns : tie.Need-returns
 returns c =
     let start = c .before .before .before .before in
-    finish-none (start .args .p) _ _ (start .pre .1) (omega arith)
+    finish-none _ (start .args .from) (start .args .to) _ _ (start .pre .1) (omega arith)
 
 returns-2 : tie.Need-returns-2
 returns-2 c =
     let called = c .before .before .before in
     let start = called .before .before .before .before .before .before in
-    finish-call (start .args .p) _ _ (start .pre .1) (λ q. omega arith) (called .call .ensures)
+    finish-call _ (start .args .from) (start .args .to) _ _ (start .pre .1) (λ q. omega arith) (called .call .ensures)
 
 pub finish-spec : {M : Type 1} → statement M
 finish-spec =
