@@ -1,4 +1,4 @@
--- A step on small inputs, each way that it goes. Assumes nothing.
+-- A round on small inputs, each way that it goes. Assumes nothing.
 use mathlib.Core.Path.{_≡_, refl}
 use mathlib.Core.Bool.{true, false}
 use mathlib.Core.List.{[], _∷_}
@@ -20,7 +20,7 @@ no-newline : advanced started 2 (40 ∷ 115 ∷ 7 ∷ []) (8 ∷ [])
 unfolding advanced answeredInto answeredLines lineLength
 no-newline = refl
 
--- `(` and a newline came, and the output has no room for a call: the line stays for the next step
+-- `(` and a newline came, and the output has no room for a call: the line stays for the next round
 no-room : advanced started 2 (40 ∷ 10 ∷ 7 ∷ []) (8 ∷ [])
     ≡ record { progress = record { state = fresh; from = 0; to = 2; wants = false; over = false; written = 0 }; input = 40 ∷ 10 ∷ 7 ∷ []; out = 8 ∷ [] }
 unfolding advanced answeredInto answeredLines lineLength

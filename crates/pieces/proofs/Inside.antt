@@ -1,4 +1,4 @@
--- After a step the unread bytes are inside the buffer, and what is written is inside the output. For callers of `advance`. Assumes nothing.
+-- After a round the unread bytes are inside the buffer, and what is written is inside the output. For callers of `advance`. Assumes nothing.
 use mathlib.Core.List.{List}
 use Prim.Native.Nat.{ℕ, _+_, _≤_, min}
 use native.Mathlib.Omega.{arith}

@@ -2,7 +2,7 @@
 pub mod Spans
 pub mod Lines
 pub mod Lent
-pub mod Steps
+pub mod Rounds
 pub mod Inside
 pub mod Run
 pub mod Cases

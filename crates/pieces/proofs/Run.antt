@@ -21,7 +21,7 @@ use Rattle.pieces.proofs.Spans.{part-again, part-more}
 use Rattle.pieces.proofs.Lines.{no-newline, all-kept, kept-none}
 use Rattle.pieces.proofs.Lent.{into-line, into-none}
 
--- ---- what a step leaves holds the stream
+-- ---- what a round leaves holds the stream
 
 -- a holds the stream t, and what t wrote
 record Holds (t : Stream) (a : Advanced) : Type 0 where

@@ -1,4 +1,4 @@
--- How far the input is answered, and a step of it, as the code has them. Cited by `start`, `advance` and the functions below it.
+-- How far the input is answered, and a round of it, as the code has them. Cited by `start`, `advance` and the functions below it.
 -- Assumes nothing.
 use mathlib.Core.Path.{_≡_}
 use mathlib.Core.Bool.{Bool, true, false, cond, _&&_}
@@ -29,7 +29,7 @@ streamOf p l = streamAt (p .state) (p .from) (p .to) l
 abbrev pub isEnd : Progress → ℕ → Bool
 isEnd p got = p .wants && eqb got 0
 
--- what a step leaves: how far the input is answered; the buffer and the lent output, each whole
+-- what a round leaves: how far the input is answered; the buffer and the lent output, each whole
 pub record Advanced : Type 0 where
   pub progress : Progress
   pub input : List ℕ
@@ -69,7 +69,7 @@ ended s l out =
       out = outputAfter out m;
     }
 
--- a step of p: `got` bytes came behind its own into the buffer l, and `out` is lent
+-- a round of p: `got` bytes came behind its own into the buffer l, and `out` is lent
 unfoldable pub advanced : Progress → ℕ → List ℕ → List ℕ → Advanced
 advanced p got l out =
     let s = afterEvent (streamOf p l) (arrives (take got (drop (p .to) l))) in

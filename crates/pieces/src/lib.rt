@@ -1,4 +1,4 @@
-// Input that comes in pieces, answered as it comes. The bytes that came stand in a buffer that the caller lends; a step answers
+// Input that comes in pieces, answered as it comes. The bytes that came stand in a buffer that the caller lends; a round answers
 // lines of them, and keeps at the buffer's front what stays of a line whose newline has not come.
 use calculus::state::State;
 use forms::line::Line;
@@ -19,7 +19,7 @@ ghost use Rattle.pieces.specs.Progress.{started, streamAt, ended, answer
 const TOO_LONG: usize = 401;
 
 // How far the input is answered: the state; the bytes of the buffer from `from` to `to` came and are not read; whether more of
-// the input is wanted, or it is over; how many bytes of the output the last step wrote.
+// the input is wanted, or it is over; how many bytes of the output the last round wrote.
 pub struct Progress {
     pub state: State,
     pub from: usize,
@@ -144,7 +144,7 @@ pub fn start() -> Progress
     }
 }
 
-// A step: `got` bytes came behind those in the buffer, none at the end of the input. Answers what can be answered.
+// A round: `got` bytes came behind those in the buffer, none at the end of the input. Answers what can be answered.
 pub fn advance(p: Progress, input: &mut [u8], got: usize, out: &mut [u8]) -> Progress
     ensures { λ r. ⌜ Advances (advanced p got (now (input .entry)) (now (out .entry))) (now (input .exit)) (now (out .exit)) r ⌝ }
 {

@@ -1,7 +1,7 @@
 -- `advance` meets its contract. Assumes nothing.
 use borrow.Author.Needs.{needs}
 use Rattle.calculus.proofs.Tests.{join}
-use Rattle.pieces.proofs.Steps.{advance-end, advance-more}
+use Rattle.pieces.proofs.Rounds.{advance-end, advance-more}
 use Rattle.pieces.proofs.advance.Statement.{statement}
 use Rattle.pieces.proofs.advance.Tie as tie
 

@@ -1,7 +1,7 @@
 -- `finish` meets its contract. Assumes nothing.
 use native.Mathlib.Omega.{arith}
 use borrow.Author.Needs.{needs}
-use Rattle.pieces.proofs.Steps.{finish-none, finish-call}
+use Rattle.pieces.proofs.Rounds.{finish-none, finish-call}
 use Rattle.pieces.proofs.finish.Statement.{statement}
 use Rattle.pieces.proofs.finish.Tie as tie
 
