@@ -1,8 +1,4 @@
 // The rule in.
-use crate::effect::lost;
-use crate::effect::only;
-use crate::effect::writes;
-use crate::effect::writes_for;
 use calculus::answer::Loss;
 use calculus::effect::Effect;
 use calculus::effect::Outcome;
@@ -13,6 +9,10 @@ use calculus::packet::Payload;
 use calculus::packet::Side;
 use calculus::packet::Via;
 use calculus::session::Row;
+use effects::effect::lost;
+use effects::effect::only;
+use effects::effect::writes;
+use effects::effect::writes_for;
 use rows::row::newest;
 ghost use mathlib.Core.Path.{_≡_};
 ghost use lib.ListN.{take};

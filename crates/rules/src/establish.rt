@@ -1,9 +1,4 @@
 // The rules of an establishment: est, auth, grant, ack.
-use crate::effect::only;
-use crate::effect::writes;
-use crate::effect::writes_for;
-use crate::effect::writes_rows;
-use crate::packet::bare;
 use calculus::effect::Effect;
 use calculus::effect::Outcome;
 use calculus::effect::Wait;
@@ -11,6 +6,11 @@ use calculus::packet::Item;
 use calculus::packet::Payload;
 use calculus::packet::Side;
 use calculus::session::Session;
+use effects::effect::only;
+use effects::effect::writes;
+use effects::effect::writes_for;
+use effects::effect::writes_rows;
+use items::packet::bare;
 use rows::row::in_row;
 use rows::row::out_row;
 ghost use mathlib.Core.Path.{_≡_};

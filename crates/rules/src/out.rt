@@ -1,6 +1,4 @@
 // The rule out.
-use crate::effect::writes;
-use crate::header::under;
 use calculus::effect::Effect;
 use calculus::number::Spi;
 use calculus::packet::Header;
@@ -8,6 +6,8 @@ use calculus::packet::Item;
 use calculus::packet::Packet;
 use calculus::packet::Via;
 use calculus::session::Row;
+use effects::effect::writes;
+use items::packet::under;
 use rows::row::newest;
 ghost use mathlib.Core.Path.{_≡_};
 ghost use lib.ListN.{take};

@@ -1,11 +1,9 @@
 // The rule of an item, with what it looks up.
-use crate::effect::lost;
 use crate::enter::enter;
 use crate::establish::ack;
 use crate::establish::auth;
 use crate::establish::est;
 use crate::establish::grant;
-use crate::header::target;
 use crate::out::out;
 use crate::up::up;
 use crate::wire::wire;
@@ -17,6 +15,8 @@ use calculus::packet::Item;
 use calculus::packet::Packet;
 use calculus::session::Session;
 use calculus::state::Part;
+use effects::effect::lost;
+use items::packet::target;
 use lookups::network::has_all_needed;
 use lookups::network::is_gateway;
 use lookups::network::next_hop;

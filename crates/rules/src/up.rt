@@ -1,7 +1,4 @@
 // The rule up.
-use crate::effect::lost;
-use crate::effect::writes;
-use crate::header::under;
 use calculus::answer::Loss;
 use calculus::effect::Effect;
 use calculus::packet::Header;
@@ -9,6 +6,9 @@ use calculus::packet::Item;
 use calculus::packet::Packet;
 use calculus::packet::Via;
 use calculus::session::Row;
+use effects::effect::lost;
+use effects::effect::writes;
+use items::packet::under;
 use rows::row::admits;
 ghost use mathlib.Core.Path.{_≡_};
 ghost use mathlib.Core.Bool.{_&&_};

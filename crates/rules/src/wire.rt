@@ -1,8 +1,4 @@
 // The rule wire.
-use crate::effect::lost;
-use crate::effect::writes;
-use crate::header::is_bare;
-use crate::header::target;
 use calculus::answer::Loss;
 use calculus::effect::Added;
 use calculus::effect::Begins;
@@ -14,6 +10,11 @@ use calculus::packet::Item;
 use calculus::packet::Packet;
 use calculus::packet::Payload;
 use calculus::session::Session;
+use effects::effect::lost;
+use effects::effect::writes;
+use items::packet::is_bare;
+use items::packet::is_data_or_done;
+use items::packet::target;
 ghost use mathlib.Core.Path.{_≡_};
 ghost use Prim.Native.Nat.{_-_};
 ghost use lib.Dec.{eqb};
@@ -61,18 +62,6 @@ fn begin(a: u8, p: u8, e: u8) -> Effect
         wait: Wait::NoWait,
         added: Added::NoRows,
         begins: Begins::Next(e),
-    }
-}
-
-fn is_data_or_done(y: Payload) -> bool
-    ensures { λ r. ⌜ r ≡ packet.isDataOrDone y ⌝ }
-{
-    match y {
-        Payload::Req(_) => false,
-        Payload::Rep(_) => false,
-        Payload::Disc(_) => false,
-        Payload::Done => true,
-        Payload::Data(_) => true,
     }
 }
 

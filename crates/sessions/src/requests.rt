@@ -1,16 +1,7 @@
 // A session's requests. Each is a function of the network, the users and the session's own part; its refusals stand in document
 // 01's order.
-use crate::effect::answer_of;
-use crate::effect::applied;
-use crate::effect::users_after;
-use crate::items::Wanted;
-use crate::items::count_data;
-use crate::items::find;
-use crate::items::is_wait;
-use crate::items::put_item;
 use calculus::answer::Answer;
 use calculus::answer::Refusal;
-use calculus::effect::Effect;
 use calculus::network::Network;
 use calculus::number::ItemNumber;
 use calculus::packet::Item;
@@ -21,10 +12,17 @@ use calculus::session::Session;
 use calculus::session::Stage;
 use calculus::state::Moved;
 use calculus::state::Part;
+use effects::moves::refused;
+use effects::moves::stepped;
+use items::item::is_wait;
+use items::packet::bare;
+use items::places::Wanted;
+use items::places::count_data;
+use items::places::find;
+use items::places::put_item;
 use lookups::network::given;
 use lookups::network::is_gateway;
 use lookups::users::lower;
-use rules::packet::bare;
 use rules::rule::rule;
 ghost use mathlib.Core.Path.{_≡_};
 ghost use mathlib.Core.Bool.{false, not, _&&_, _||_};
@@ -35,16 +33,6 @@ ghost use Rattle.model.specs.Network as network;
 ghost use Rattle.model.specs.Row.{stands};
 ghost use Rattle.model.specs.Requests as spec;
 ghost use Rattle.model.specs.Turn.{moving, Moves};
-
-fn refused(t: Part, r: Refusal) -> Moved
-    ensures { λ x. ⌜ x ≡ moving t (spec.refuse r) ⌝ }
-{
-    Moved {
-        opens: false,
-        answer: Answer::No(r),
-        part: t,
-    }
-}
 
 fn is_unused(g: Stage) -> bool
     ensures { λ r. ⌜ r ≡ spec.isUnused g ⌝ }
@@ -148,32 +136,12 @@ pub fn open(n: Network, t: Part, c: u8, d: u8) -> Moved
 
 // ---- step
 
-// What the effect of the item at `at` leaves.
-fn stepped(users: &mut [u16; 2048], t: Part, at: usize, f: Effect) -> Moved
-    requires { ⌜ t .session .last .0 ≤ 999998 ⌝ }
-    ensures { λ r. ⌜ Moves (now (users .entry)) t (spec.stepped t at f) (now (users .exit)) r ⌝ }
-{
-    let s = t.session;
-    let last = s.last;
-    let outcome = f.outcome;
-    let added = f.added;
-    let answer = answer_of(last, outcome);
-    let part = applied(t, at, f);
-    users_after(users, s.rows, added);
-    Moved {
-        opens: false,
-        answer,
-        part,
-    }
-}
-
 // A step of the item at `at`, or of none where that is past the places: refusals 7, 11, 12, 10.
 fn step_at(n: Network, users: &mut [u16; 2048], t: Part, at: usize) -> Moved
     ensures { λ r. ⌜ Moves (now (users .entry)) t (spec.stepAt n (stands (now (users .entry)) false) t at) (now (users .exit)) r ⌝ }
 {
     let s = t.session;
     let stage = s.stage;
-    let last = s.last;
     let items = t.items;
     if is_unused(stage) {
         return refused(t, Refusal::Idle);
@@ -185,9 +153,6 @@ fn step_at(n: Network, users: &mut [u16; 2048], t: Part, at: usize) -> Moved
     let item = slot.item;
     if is_wait(item) {
         return refused(t, Refusal::Waiting);
-    }
-    if 999998 < last.0 {
-        return refused(t, Refusal::Spent);
     }
     let effect = rule(n, users, t, item);
     stepped(users, t, at, effect)

@@ -1,5 +1,5 @@
 -- `requests::step_at` meets its contract. Assumes nothing.
-use borrow.Author.Tests.{lt-ltb, le-ltb, le-leb, lt-leb}
+use borrow.Author.Tests.{le-leb, lt-leb}
 use borrow.Author.Needs.{needs}
 use mathlib.Core.Path.{_≡_, refl}
 use mathlib.Core.Bool.{Bool, false}
@@ -10,7 +10,8 @@ use Rattle.calculus.specs.declared.answer.Refusal.the-variants.{Idle, NoItem, W
 use Rattle.calculus.specs.declared.effect.Effect.{Effect}
 use Rattle.calculus.specs.declared.state.Moved.{Moved}
 use Rattle.calculus.specs.declared.state.Part.{Part}
-use Rattle.model.specs.Requests.{refuse, stepped, stepAt, checked}
+use Rattle.effects.specs.Stepped.{steppedUnlessSpent}
+use Rattle.model.specs.Requests.{refuse, spent, stepped, stepAt, checked}
 use Rattle.model.specs.Turn.{Moves}
 use Rattle.sessions.proofs.requests.step_at.Statement.{statement}
 use Rattle.sessions.proofs.requests.step_at.Tie as tie
@@ -38,38 +39,23 @@ returns-3 c =
     )
     (record { part = c .refused3 .ensures; shared = refl })
 
-returns-4 : tie.Need-returns-4
-unfolding stepAt checked
-returns-4 c =
-    let c₃ = c .before .before .before in
-    let c₆ = c₃ .before .before .before in
-    simp (
-      lt-ltb _ _ (c .before .if4 .taken),
-      join (c₃ .before .is-wait .ensures) (c₃ .if3 .left),
-      lt-leb _ _ (c₆ .if2 .left),
-      join (c₆ .before .before .is-unused .ensures) (c₆ .before .if1 .left),
-    )
-    (record { part = c .refused4 .ensures; shared = refl })
-
--- no refusal's test holds, so the step by the rule's effect g is made
-passed : {users left : List ℕ} (t : Part) (at : ℕ) {f g : Effect} {v : Moved} {p q r s : Bool}
-    → Moves users t (stepped t at f) left v → f ≡ g → p ≡ false → q ≡ false → r ≡ false → s ≡ false
-    → Moves users t (checked refuse ((p, Idle) ∷ (q, NoItem) ∷ (r, Waiting) ∷ (s, Spent) ∷ []) (stepped t at g)) left v
+-- no refusal's test but the last holds, so the step by the rule's effect g is made, or refused for want of numbers
+passed : {users left : List ℕ} (t : Part) (at : ℕ) {f g : Effect} {v : Moved} {p q r : Bool}
+    → Moves users t (steppedUnlessSpent t at f) left v → f ≡ g → p ≡ false → q ≡ false → r ≡ false
+    → Moves users t (checked refuse ((p, Idle) ∷ (q, NoItem) ∷ (r, Waiting) ∷ (spent t, Spent) ∷ []) (stepped t at g)) left v
 unfolding checked
-passed t at w k e f g h = simp (e, f, g, h, ← k) w
+passed t at w k e f g = simp (e, f, g, ← k) w
 
-returns-5 : tie.Need-returns-5
+returns-4 : tie.Need-returns-4
 unfolding stepAt
-returns-5 c =
+returns-4 c =
     let c₄ = c .before .before .before .before in
-    let c₆ = c₄ .before .before in
-    let c₉ = c₆ .before .before .before in
-    let args = c₉ .before .before .before .before .before .before .args in
+    let c₇ = c₄ .before .before .before in
+    let args = c₇ .before .before .before .before .before .args in
     passed (args .t) (args .at) (c .stepped .ensures) (c .before .before .rule .ensures)
-    (join (c₉ .before .before .is-unused .ensures) (c₉ .before .if1 .left))
-    (lt-leb _ _ (c₉ .if2 .left))
-    (join (c₆ .before .is-wait .ensures) (c₆ .if3 .left))
-    (le-ltb _ _ (c₄ .if4 .left))
+    (join (c₇ .before .before .is-unused .ensures) (c₇ .before .if1 .left))
+    (lt-leb _ _ (c₇ .if2 .left))
+    (join (c₄ .before .is-wait .ensures) (c₄ .if3 .left))
 
 pub step-at-spec : {M : Type 1} → statement M
 step-at-spec =
@@ -86,7 +72,5 @@ step-at-spec =
     (λ c κs. search needs)
     returns-3
     (λ c κs. search needs)
-    returns-4
     (λ c κs. search needs)
-    (λ c κs. search needs)
-    returns-5)
+    returns-4)

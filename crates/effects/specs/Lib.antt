@@ -1,0 +1,2 @@
+-- What the contracts of `effects` cite beside the model.
+pub mod Stepped

@@ -1,0 +1,2 @@
+-- What the contracts of `items` cite beside the model.
+pub mod Wanted

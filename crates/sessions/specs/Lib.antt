@@ -1,2 +1,0 @@
--- What the contracts of private functions of `sessions` cite.
-pub mod Wanted
