@@ -13,6 +13,8 @@ use calculus::network::Network;
 use calculus::packet::Header;
 use calculus::packet::Item;
 use calculus::packet::Packet;
+use calculus::packet::Side;
+use calculus::session::Row;
 use calculus::session::Session;
 use calculus::state::Part;
 use effects::effect::lost;
@@ -23,7 +25,8 @@ use lookups::network::next_hop;
 use lookups::users::stands;
 ghost use mathlib.Core.Path.{_≡_};
 ghost use mathlib.Core.Bool.{false};
-ghost use Rattle.model.specs.Network.{isGateway, nextHop};
+ghost use lib.ListN.{take};
+ghost use Rattle.model.specs.Network.{hasAllNeeded, isGateway, nextHop};
 ghost use Rattle.model.specs.Packet as packet;
 ghost use Rattle.model.specs.Row as row;
 ghost use Rattle.model.specs.Rules as spec;
@@ -52,6 +55,23 @@ fn header_stands(users: &[u16; 2048], a: u8, h: Header) -> bool
     }
 }
 
+// Up, with whether the header's association stands.
+fn up_at(users: &[u16; 2048], rows: [Row; 32], held: u8, a: u8, p: Packet) -> Effect
+    ensures { λ r. ⌜ r ≡ spec.upRule (spec.headerStands (row.stands (now (users .entry)) false) a (p .header)) (take held rows) a p ⌝ }
+{
+    let header = p.header;
+    let standing = header_stands(users, a, header);
+    up(standing, rows, held, a, p)
+}
+
+// Auth, with whether q has all that a needs.
+fn auth_at(n: Network, a: u8, q: u8, e: u8, side: Side) -> Effect
+    ensures { λ r. ⌜ r ≡ spec.authRule (hasAllNeeded n a q) a q e side ⌝ }
+{
+    let enough = has_all_needed(n, a, q);
+    auth(enough, a, q, e, side)
+}
+
 // A free place and a wait have no rule: a step of one is refused before.
 fn never_met() -> Effect
     ensures { λ r. ⌜ r ≡ spec.neverMet ⌝ }
@@ -70,17 +90,10 @@ pub fn rule(n: Network, users: &[u16; 2048], t: Part, i: Item) -> Effect
         Item::Free => never_met(),
         Item::Wire(a, p, h) => wire_at(n, s, a, p, h),
         Item::Out(a, p) => out(rows, held, a, p),
-        Item::Up(a, p) => {
-            let header = p.header;
-            let standing = header_stands(users, a, header);
-            up(standing, rows, held, a, p)
-        }
+        Item::Up(a, p) => up_at(users, rows, held, a, p),
         Item::In(a, p, via) => enter(rows, held, a, p, via),
         Item::Est(a, b, e) => est(a, b, e),
-        Item::Auth(a, q, e, side) => {
-            let enough = has_all_needed(n, a, q);
-            auth(enough, a, q, e, side)
-        }
+        Item::Auth(a, q, e, side) => auth_at(n, a, q, e, side),
         Item::Grant(a, q, e, side) => grant(s, a, q, e, side),
         Item::Ack(a, _) => ack(s, a),
         Item::Dwait(_) => never_met(),

@@ -18,12 +18,7 @@ returns-3 c = simp (c .out .ensures, c .before .before .i2 .given .1)
 
 returns-4 : tie.Need-returns-4
 unfolding rule
-returns-4 c =
-    simp (
-      c .up .ensures,
-      c .before .header-stands .ensures,
-      c .before .before .before .i3 .given .1,
-    )
+returns-4 c = simp (c .up-at .ensures, c .before .before .i3 .given .1)
 
 returns-5 : tie.Need-returns-5
 unfolding rule
@@ -35,12 +30,7 @@ returns-6 c = simp (c .est .ensures, c .before .before .i5 .given .1)
 
 returns-7 : tie.Need-returns-7
 unfolding rule
-returns-7 c =
-    simp (
-      c .auth .ensures,
-      c .before .has-all-needed .ensures,
-      c .before .before .before .i6 .given .1,
-    )
+returns-7 c = simp (c .auth-at .ensures, c .before .before .i6 .given .1)
 
 returns-8 : tie.Need-returns-8
 unfolding rule
@@ -61,4 +51,4 @@ returns-11 c = simp (c .never-met3 .ensures, c .before .enum-told3 .given .1)
 pub rule-spec : {M : Type 1} → statement M
 rule-spec =
     tie.close
-    (tie.spec (λ c. search needs) (λ c κs. search needs) (λ c. search needs) (λ c κs. search needs) (λ c. search needs) (λ c κs. search needs) (λ c. search needs) (λ c κs. search needs) (λ c κs. search needs) (λ c. search needs) (λ c κs. search needs) (λ c. search needs) (λ c κs. search needs) (λ c. search needs) (λ c κs. search needs) (λ c κs. search needs) (λ c. search needs) (λ c κs. search needs) (λ c. search needs) (λ c κs. search needs) (λ c. search needs) (λ c κs. search needs) (λ c. search needs) (λ c κs. search needs) returns returns-2 returns-3 returns-4 returns-5 returns-6 returns-7 returns-8 returns-9 returns-10 returns-11)
+    (tie.spec (λ c. search needs) (λ c κs. search needs) (λ c. search needs) (λ c κs. search needs) (λ c. search needs) (λ c κs. search needs) (λ c. search needs) (λ c κs. search needs) (λ c. search needs) (λ c κs. search needs) (λ c. search needs) (λ c κs. search needs) (λ c. search needs) (λ c κs. search needs) (λ c. search needs) (λ c κs. search needs) (λ c. search needs) (λ c κs. search needs) (λ c. search needs) (λ c κs. search needs) (λ c. search needs) (λ c κs. search needs) returns returns-2 returns-3 returns-4 returns-5 returns-6 returns-7 returns-8 returns-9 returns-10 returns-11)
