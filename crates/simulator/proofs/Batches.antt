@@ -26,9 +26,10 @@ use Rattle.model.specs.Turn.{sessionOf, turnOf, usersOf, isOk, networkOf, answe
 use Rattle.model.proofs.Batch.{lines-over, lines-more}
 use Rattle.model.proofs.Parts.{Sized, Whole, Numbered}
 use Rattle.model.proofs.Turns.{Further, held-further, held-whole}
+use Rattle.reports.specs.Lines.{Puts}
+use Rattle.reports.specs.Report.{Reports}
+use Rattle.reports.proofs.Lines.{puts-size, put-reports}
 use Rattle.simulator.specs.Batch.{Answers}
-use Rattle.simulator.specs.Lines.{Puts}
-use Rattle.simulator.proofs.Lines.{puts-size}
 use Rattle.simulator.specs.Range.{Ranged}
 use Rattle.simulator.proofs.Range.{asked-ranged, asked-numbered}
 
@@ -113,7 +114,7 @@ module _ {s : State} {text out₀ out : List ℕ} {parts : List Part} {opened : 
       → m ≡ turnOf opened n users (getD parts (u - 1) z) (r .parsed) → left ≡ usersOf n users (getD parts (u - 1) z) (r .parsed)
       → Whole (m .part) → (opened′ : Bool) → opened′ ≡ (m .opens || opened)
       → (n′ : Network) → n′ ≡ cond (isOk (m .answer)) (networkOf n (r .has) (r .needs) (r .parsed)) n → {out′ : List ℕ} {written′ : ℕ}
-      → Puts 65536 out written (answersOf left (r .parsed) (m .answer)) out′ written′
+      → Reports out written (answersOf left (r .parsed) (m .answer)) out′ written′
       → Answering s text out₀ out′ (set parts (u - 1) (m .part)) opened′ n′ left next written′ going
   answering-more up {stop} {next} f r reads u eu m left z em el hm opened′ eo n′ en {out′} {written′} p = go (w .fuel) (w .same) (w .enough)
     where
@@ -123,11 +124,11 @@ module _ {s : State} {text out₀ out : List ℕ} {parts : List Part} {opened : 
       further : Further (w .state) r opened n parts users m left
       further = held-further (w .sized) (w .held) r numbered m left z (rw eu at em) (rw eu at el) hm
 
-      puts : Puts 65536 out written (repliedTo (w .state) r .answers) out′ written′
-      puts = rw (further .answers) p
-
       fits : written + 65536 ≤ length out
       fits = omega (arith, f .roomy)
+
+      puts : Puts 65536 out written (repliedTo (w .state) r .answers) out′ written′
+      puts = rw (further .answers) (put-reports fits p)
 
       one : oneMore text (reached (w .state) out from written) (Found stop next) ≡ reached (repliedTo (w .state) r .state) out′ next written′
       one = one-more (w .state) text out from written stop next r (or-false _ _ (f .goes-on)) reads puts fits

@@ -1,10 +1,7 @@
 -- Laws that belong to no one function.
 pub mod Batches
 pub mod Copies
-pub mod Lines
 pub mod Packs
 pub mod Range
 pub mod Replied
-pub mod Shown
 pub mod Sizes
-pub mod Widths

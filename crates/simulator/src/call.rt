@@ -1,7 +1,6 @@
 // A fresh state, and one call: a line and a lent output.
 use crate::part::load;
 use crate::part::store;
-use crate::show::put_answers;
 use crate::turn::is_ok;
 use crate::turn::is_opened;
 use crate::turn::network_of;
@@ -19,6 +18,7 @@ use lookups::blank::blank_part;
 use lookups::blank::blank_row;
 use lookups::blank::blank_slot;
 use lookups::network::no_node;
+use reports::put_answers;
 ghost use mathlib.Core.Path.{_≡_};
 ghost use lib.ListN.{length};
 ghost use Rattle.model.specs.Calls as calls;

@@ -2,7 +2,6 @@
 // the state once, and put back once: a call moves one part, and not the whole state.
 use crate::part::pack;
 use crate::part::unpack;
-use crate::show::put_answers;
 use crate::turn::is_ok;
 use crate::turn::is_opened;
 use crate::turn::network_of;
@@ -13,6 +12,7 @@ use forms::line::Line;
 use forms::read::read;
 use lines::line_at;
 use lookups::blank::blank_part;
+use reports::put_answers;
 ghost use mathlib.Core.Path.{_≡_};
 ghost use Rattle.model.specs.Batch.{isLast, nextCall, answeredText};
 ghost use Rattle.simulator.specs.Batch.{Answers};

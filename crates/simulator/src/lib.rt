@@ -2,5 +2,4 @@
 pub mod call;
 pub mod calls;
 mod part;
-mod show;
 mod turn;

@@ -109,7 +109,7 @@ calls-spec =
     (λ c. omega (arith, numbered (c .before .before .before .before .before)))
     (λ c. omega (arith, numbered (c .before .before .before .before .before)))
     (λ c κs. search needs)
-    (λ c κs. omega (arith, found (c .before .before .before .before .before .before .before .before .before .before .before .before)))
+    (λ c κs. search needs)
     (λ c κs. search needs)
     (λ c κs. reads-ranged (reads (behind (c .before .before .before .before .before .before))))
     (λ c. omega (arith, found (behind (c .before .before .before .before .before .before .before) .before .before .before)))
