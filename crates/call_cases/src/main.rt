@@ -8,7 +8,7 @@ use libc::STDOUT_FILENO;
 use lines::line_at;
 use simulator::call::Status;
 use simulator::call::call;
-use simulator::call::fresh;
+use tables::fresh::fresh;
 ghost use Rattle.io.specs.Counts.{Counts};
 
 fn put(word: &[u8]) {

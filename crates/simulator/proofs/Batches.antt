@@ -12,7 +12,7 @@ use Rattle.calculus.specs.declared.network.Network.{Network}
 use Rattle.calculus.specs.declared.state.Moved.{Moved}
 use Rattle.calculus.specs.declared.state.Part.{Part}
 use Rattle.calculus.specs.declared.state.State.{State}
-use Rattle.calculus.proofs.Tests.{Way, is, isnt, way, clash}
+use Rattle.calculus.proofs.Tests.{Way, is, isnt, way, clash, within-bounds}
 use Rattle.forms.specs.declared.line.Line.{Line}
 use Rattle.forms.specs.declared.line.Line.the-variants.{Found, End}
 use Rattle.forms.specs.declared.read.Reading.{Reading}
@@ -31,7 +31,7 @@ use Rattle.reports.specs.Report.{Reports}
 use Rattle.reports.proofs.Lines.{puts-size, put-reports}
 use Rattle.simulator.specs.Batch.{Answers}
 use Rattle.simulator.specs.Range.{Ranged}
-use Rattle.simulator.proofs.Range.{asked-ranged, asked-numbered}
+use Rattle.simulator.proofs.Range.{asked-ranged, asked-session}
 
 -- how far the text is read and the output written, at the state that is reached
 abbrev reached : State → List ℕ → ℕ → ℕ → Batch
@@ -90,7 +90,7 @@ pub record Reads (text : List ℕ) (from stop : ℕ) (r : Reading) : Type 0 wher
   pub same : r ≡ asked (read (take (stop - from) (drop from text)))
 
 pub reads-numbered : {text : List ℕ} {from stop : ℕ} {r : Reading} → Reads text from stop r → (1 ≤ sessionOf (r .parsed)) × (sessionOf (r .parsed) ≤ 8)
-reads-numbered {text} {from} {stop} x = rw (x .same) (asked-numbered (read (take (stop - from) (drop from text))))
+reads-numbered {text} {from} {stop} x = rw (x .same) (within-bounds 1 8 _ (asked-session (read (take (stop - from) (drop from text)))))
 
 pub reads-ranged : {text : List ℕ} {from stop : ℕ} {r : Reading} → Reads text from stop r → Ranged (r .parsed)
 reads-ranged {text} {from} {stop} x = rw (x .same) (asked-ranged (read (take (stop - from) (drop from text))))

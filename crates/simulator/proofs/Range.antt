@@ -1,20 +1,23 @@
 -- What a line asks has its numbers in range. Assumes nothing.
-use mathlib.Core.Path.{_≡_}
+use mathlib.Core.Path.{_≡_, refl}
 use mathlib.Core.Bool.{Bool, true, _&&_}
 use mathlib.Core.Option.{Option, none, some}
 use Prim.Native.Nat.{ℕ, _≤_}
 use native.Mathlib.Omega.{arith}
 use Rattle.calculus.specs.Number.{within, isNode, isSession, isItem, isTag}
 use Rattle.calculus.proofs.Tests.{both, within-bounds}
+use Rattle.calculus.specs.declared.request.Request as request
 use Rattle.calculus.specs.declared.request.Request.the-variants.{Node, Route, Open, Step, Send, Close, Show}
 use Rattle.forms.specs.declared.read.Parsed.{Parsed}
 use Rattle.forms.specs.declared.read.Parsed.the-variants.{Asks, Refused}
 use Rattle.forms.specs.declared.read.Reading.{Reading}
 use Rattle.forms.specs.Text.{Form, node, route, «open», step, send, close, show}
 use Rattle.forms.specs.Request.{rising, reading, asked}
-use Rattle.model.specs.Turn.{sessionOf}
+use Rattle.model.specs.Turn.{sessionIn, sessionOf}
+use Rattle.model.proofs.Asked as asks
+use Rattle.model.proofs.Asked.{Meaning, refuses, givesNode, givesRoute, ofSession, shows, meaning}
 use Rattle.model.proofs.Checks.{either}
-use Rattle.simulator.specs.Range.{IsSession, Ranged}
+use Rattle.simulator.specs.Range.{Ranged}
 
 first-bounds : (low high n : ℕ) (b : Bool) → (within low high n && b) ≡ true → (low ≤ n) × (n ≤ high)
 first-bounds low high n b e = within-bounds low high n (both (within low high n) b e .0)
@@ -36,16 +39,22 @@ pub asked-ranged : (o : Option Form) → Ranged (asked o .parsed)
 asked-ranged none = tt
 asked-ranged (some f) = form-ranged f
 
-session-numbered : (p : Parsed) → Ranged p → IsSession (sessionOf p)
-session-numbered (Asks (Node a k)) h = omega arith
-session-numbered (Asks (Route a b n)) h = omega arith
-session-numbered (Asks (Open u c d)) h = h
-session-numbered (Asks (Step u k)) h = h
-session-numbered (Asks (Send u w t)) h = h
-session-numbered (Asks (Close u)) h = h
-session-numbered (Asks Show) h = omega arith
-session-numbered (Refused r) h = omega arith
+own-session : (q : request.Request) → isSession (asks.sessionIn q) ≡ true → isSession (sessionIn q) ≡ true
+own-session (Node a k) e = refl
+own-session (Route a b n) e = refl
+own-session (Open u c d) e = e
+own-session (Step u k) e = e
+own-session (Send u w tag) e = e
+own-session (Close u) e = e
+own-session Show e = refl
+
+meant-session : {o : Option Form} {r : Reading} → Meaning o r → isSession (sessionOf (r .parsed)) ≡ true
+meant-session (refuses r h) = refl
+meant-session (givesNode a k has needs h) = refl
+meant-session (givesRoute a b n h k) = refl
+meant-session (ofSession q h k) = own-session q h
+meant-session (shows h) = refl
 
 -- so is the number of the session whose part it is about
-pub asked-numbered : (o : Option Form) → (1 ≤ sessionOf (asked o .parsed)) × (sessionOf (asked o .parsed) ≤ 8)
-asked-numbered o = session-numbered (asked o .parsed) (asked-ranged o)
+pub asked-session : (o : Option Form) → isSession (sessionOf (asked o .parsed)) ≡ true
+asked-session o = meant-session (meaning o)

@@ -1,6 +1,4 @@
-// A fresh state, and one call: a line and a lent output.
-use crate::part::load;
-use crate::part::store;
+// One call: a line and a lent output.
 use crate::turn::is_ok;
 use crate::turn::is_opened;
 use crate::turn::network_of;
@@ -8,21 +6,15 @@ use crate::turn::session_of;
 use crate::turn::turn;
 use calculus::answer::Answer;
 use calculus::answer::Refusal;
-use calculus::network::Network;
-use calculus::number::ItemNumber;
-use calculus::session::Session;
-use calculus::session::Stage;
 use calculus::state::State;
 use forms::read::read;
 use lookups::blank::blank_part;
-use lookups::blank::blank_row;
-use lookups::blank::blank_slot;
-use lookups::network::no_node;
 use reports::put_answers;
+use tables::part::load;
+use tables::part::store;
 ghost use mathlib.Core.Path.{_≡_};
 ghost use lib.ListN.{length};
 ghost use Rattle.model.specs.Calls as calls;
-ghost use Rattle.model.specs.State as spec;
 ghost use Rattle.simulator.specs.Reply.{statusOf, Replies};
 
 // Whether the call was answered or refused.
@@ -36,34 +28,6 @@ pub struct Reply {
     pub state: State,
     pub written: usize,
     pub status: Status,
-}
-
-// No node, no route, no users; every session unused.
-pub fn fresh() -> State
-    ensures { λ r. ⌜ r ≡ spec.fresh ⌝ }
-{
-    let node = no_node();
-    let session = Session {
-        stage: Stage::Unused,
-        client: 0,
-        server: 0,
-        begun: 0,
-        rows: 0,
-        last: ItemNumber(0),
-    };
-    let slot = blank_slot();
-    let row = blank_row();
-    State {
-        opened: false,
-        network: Network {
-            nodes: [node; 32],
-            routes: [0; 1024],
-        },
-        sessions: [session; 8],
-        items: [slot; 128],
-        rows: [row; 256],
-        users: [0; 2048],
-    }
 }
 
 fn status_of(answer: Answer) -> Status

@@ -1,7 +1,5 @@
 // The calls of a text, one on each line, answered one after the other. The sessions' parts and the shared tables are taken out of
 // the state once, and put back once: a call moves one part, and not the whole state.
-use crate::part::pack;
-use crate::part::unpack;
 use crate::turn::is_ok;
 use crate::turn::is_opened;
 use crate::turn::network_of;
@@ -13,6 +11,8 @@ use forms::read::read;
 use lines::line_at;
 use lookups::blank::blank_part;
 use reports::put_answers;
+use tables::part::pack;
+use tables::part::unpack;
 ghost use mathlib.Core.Path.{_≡_};
 ghost use Rattle.model.specs.Batch.{isLast, nextCall, answeredText};
 ghost use Rattle.simulator.specs.Batch.{Answers};

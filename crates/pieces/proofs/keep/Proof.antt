@@ -7,7 +7,7 @@ use native.Mathlib.Nat.{zero-add}
 use native.Mathlib.Omega.{arith}
 use lib.ListN.{length, getD, set, take, drop, length-drop}
 use lib.Seq.{getD-drop, drop-paste}
-use Rattle.simulator.proofs.Copies.{Loaded, loaded-none, loaded-more, stored-all}
+use Rattle.tables.proofs.Copies.{Loaded, loaded-none, loaded-more, stored-all}
 use Rattle.pieces.proofs.keep.Statement.{statement}
 use Rattle.pieces.proofs.keep.Tie as tie
 

@@ -1,10 +1,10 @@
 -- `call::call` meets its contract: a short output is refused, and what a line asks is in range. Assumes nothing.
 use mathlib.Core.Path.{_≡_, refl}
-use mathlib.Core.Bool.{cond}
-use Prim.Native.Nat.{_≤_}
+use mathlib.Core.Bool.{true, cond}
 use lib.ListN.{length}
 use borrow.Author.Needs.{needs}
 use borrow.Author.Tests.{lt-ltb}
+use Rattle.calculus.specs.Number.{isSession}
 use Rattle.calculus.specs.declared.network.Network.{Network}
 use Rattle.calculus.proofs.Tests.{join}
 use Rattle.forms.specs.Read.{read}
@@ -13,7 +13,7 @@ use Rattle.model.specs.State.{store}
 use Rattle.model.specs.Turn.{isOk, networkOf}
 use Rattle.simulator.specs.Range.{Ranged}
 use Rattle.simulator.specs.Reply.{Replies}
-use Rattle.simulator.proofs.Range.{asked-ranged, asked-numbered}
+use Rattle.simulator.proofs.Range.{asked-ranged, asked-session}
 use Rattle.simulator.proofs.Replied.{replied}
 use Rattle.simulator.proofs.call.call.Statement.{statement}
 use Rattle.simulator.proofs.call.call.Tie as tie
@@ -27,8 +27,8 @@ ranged : (c : tie.After-read) → Ranged (c .read .result .parsed)
 ranged c = rw (c .read .ensures) (asked-ranged (read (c .before .before .before .before .args .line .now)))
 
 -- the session that the line names
-numbered : (c : tie.After-session-of) → (1 ≤ c .session-of .result .0) × (c .session-of .result .0 ≤ 8)
-numbered c = rw (c .session-of .ensures, c .before .read .ensures) (asked-numbered (read (c .before .before .before .before .before .args .line .now)))
+numbered : (c : tie.After-session-of) → isSession (c .session-of .result .0) ≡ true
+numbered c = rw (c .session-of .ensures, c .before .read .ensures) (asked-session (read (c .before .before .before .before .before .args .line .now)))
 
 -- the reply, where the network is n
 reply : (c : tie.After-store) (n : Network)
@@ -60,9 +60,10 @@ reply c n e =
     let c₁₅ = c₁₂ .before .before .before in
     let c₁₆ = c₁₅ .before in
     let x = c₁₆ .before .before .before .before .args in
+    let part = rw (numbered c₁₅) at (c₁₂ .load .ensures) in
     replied (x .s) (x .line .now) (c₁₆ .read .result) (c₁₆ .read .ensures) (c₁₅ .session-of .result .0) (rw (c₁₅ .session-of .ensures))
-    (c₉ .turn .result) (c₉ .turn .last .1 .1 .0) (rw (← c₁₂ .load .ensures) (c₉ .turn .ensures .0)) (rw (← c₁₂ .load .ensures) (c₉ .turn .ensures .1))
-    (c₁₆ .before .if1 .left) (c₅ .put-answers .ensures) (c .store .result) (c .store .ensures) (c .before .is-opened .result)
+    (c₉ .turn .result) (c₉ .turn .last .1 .1 .0) (rw (← part) (c₉ .turn .ensures .0)) (rw (← part) (c₉ .turn .ensures .1))
+    (c₁₆ .before .if1 .left) (c₅ .put-answers .ensures) (c .store .result) (rw (numbered c₁₅) at (c .store .ensures)) (c .before .is-opened .result)
     (c .before .is-opened .ensures) n e (c₂ .status-of .result) (c₂ .status-of .ensures)
 
 returns-2 : tie.Need-returns-2
@@ -74,7 +75,8 @@ returns-3 : tie.Need-returns-3
 unfolding store
 returns-3 c =
     let c₂ = c .before .before in
-    reply c₂ (c₂ .store .result .network) (rw (join (c .before .is-ok .ensures) (c .if2 .left), c₂ .store .ensures))
+    let h = numbered (c₂ .before .before .before .before .before .before .before .before .before .before .before .before .before .before .before) in
+    reply c₂ (c₂ .store .result .network) (rw (join (c .before .is-ok .ensures) (c .if2 .left), c₂ .store .ensures, h))
 
 pub call-spec : {M : Type 1} → statement M
 call-spec =
@@ -83,13 +85,13 @@ call-spec =
     returns
     (λ c κs. search needs)
     (λ c κs. search needs)
-    (λ c κs. numbered (c .before .before))
     (λ c κs. search needs)
     (λ c κs. search needs)
     (λ c κs. search needs)
     (λ c κs. search needs)
     (λ c κs. search needs)
-    (λ c κs. numbered (c .before .before .before .before .before .before .before .before .before .before .before .before .before .before))
+    (λ c κs. search needs)
+    (λ c κs. search needs)
     (λ c κs. search needs)
     (λ c κs. ranged (c .before .before .before .before .before .before .before .before .before .before .before .before .before .before .before .before .before .before .before .before))
     (λ c. search needs)

@@ -10,7 +10,7 @@ use Rattle.calculus.proofs.Tests.{join}
 use Rattle.model.specs.Turn.{isOk, networkOf}
 use Rattle.simulator.proofs.Batches.{Answering, answering-first, answering-more, answering-over, answering-last}
 use Rattle.simulator.proofs.Batches.{Next, next-found, Reads, reads-numbered, reads-ranged}
-use Rattle.simulator.proofs.Sizes.{state-sized, moved-whole}
+use Rattle.tables.proofs.Sizes.{state-sized, part-whole}
 use Rattle.simulator.proofs.calls.calls.Statement.{statement}
 use Rattle.simulator.proofs.calls.calls.Tie as tie
 
@@ -68,7 +68,7 @@ more c n e =
     let c₁₆ = c₁₃ .before .before .before in
     answering-more (c₁₆ .before .loop .inv) (c₁₆ .loop-test .taken) (found c₁₃) (c₁₀ .read .result) (reads c₁₀) (c₉ .session-of .result .0)
     (rw (c₉ .session-of .ensures)) (c₅ .turn .result) (c₅ .turn .last .1 .1 .0) _ (c₅ .turn .ensures .0) (c₅ .turn .ensures .1)
-    (moved-whole (c₅ .turn .result) _ (c₅ .turn .ok)) (c₃ .is-opened .result) (c₃ .is-opened .ensures) n e (c .put-answers .ensures)
+    (part-whole (c₅ .turn .result .part) _ (c₅ .turn .ok .1 .1 .1 .1 .0)) (c₃ .is-opened .result) (c₃ .is-opened .ensures) n e (c .put-answers .ensures)
 
 loop-again : tie.Need-loop-again Inv-loop μ-loop
 loop-again c =
@@ -82,7 +82,7 @@ loop-again-3 : tie.Need-loop-again-3 Inv-loop μ-loop
 loop-again-3 c = answering-over (c .before .before .before .before .loop .inv) (join (c .before .before .next-call .ensures) (c .enum-told .given .1))
 
 returns : tie.Need-returns Inv-loop μ-loop
-returns c = answering-last (c .before .before .loop .inv) (c .before .loop-test .left) (c .pack .result) (state-sized _ _ (c .pack .ok)) (c .pack .ensures)
+returns c = answering-last (c .before .before .loop .inv) (c .before .loop-test .left) (c .pack .result) (state-sized _ _ (c .pack .ok)) (c .pack .ensures .own)
 
 pub calls-spec : {M : Type 1} → statement M
 calls-spec =

@@ -1,0 +1,2 @@
+-- What the contracts of `tables` cite, beside the model's.
+pub mod Part
