@@ -30,8 +30,7 @@ use Rattle.reports.specs.Lines.{Puts}
 use Rattle.reports.specs.Report.{Reports}
 use Rattle.reports.proofs.Lines.{puts-size, put-reports}
 use Rattle.simulator.specs.Batch.{Answers}
-use Rattle.simulator.specs.Range.{Ranged}
-use Rattle.simulator.proofs.Range.{asked-ranged, asked-session}
+use Rattle.simulator.proofs.Range.{asked-session}
 
 -- how far the text is read and the output written, at the state that is reached
 abbrev reached : State → List ℕ → ℕ → ℕ → Batch
@@ -91,9 +90,6 @@ pub record Reads (text : List ℕ) (from stop : ℕ) (r : Reading) : Type 0 wher
 
 pub reads-numbered : {text : List ℕ} {from stop : ℕ} {r : Reading} → Reads text from stop r → (1 ≤ sessionOf (r .parsed)) × (sessionOf (r .parsed) ≤ 8)
 reads-numbered {text} {from} {stop} x = rw (x .same) (within-bounds 1 8 _ (asked-session (read (take (stop - from) (drop from text)))))
-
-pub reads-ranged : {text : List ℕ} {from stop : ℕ} {r : Reading} → Reads text from stop r → Ranged (r .parsed)
-reads-ranged {text} {from} {stop} x = rw (x .same) (asked-ranged (read (take (stop - from) (drop from text))))
 
 -- the line is a call: its answers, put into the output, are those of the call
 module _ (s : State) (text out : List ℕ) (from written stop next : ℕ) (r : Reading) where

@@ -1,4 +1,3 @@
 -- What the contracts of `simulator` cite: `Reply` and `Batch` those of the public functions, the others those of private ones.
 pub mod Reply
-pub mod Range
 pub mod Batch

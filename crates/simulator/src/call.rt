@@ -1,7 +1,6 @@
 // One call: a line and a lent output.
 use crate::turn::is_ok;
 use crate::turn::is_opened;
-use crate::turn::network_of;
 use crate::turn::session_of;
 use crate::turn::turn;
 use calculus::answer::Answer;
@@ -9,6 +8,7 @@ use calculus::answer::Refusal;
 use calculus::state::State;
 use forms::read::read;
 use lookups::blank::blank_part;
+use networks::after::network_of;
 use reports::put_answers;
 use tables::part::load;
 use tables::part::store;

@@ -2,7 +2,6 @@
 // the state once, and put back once: a call moves one part, and not the whole state.
 use crate::turn::is_ok;
 use crate::turn::is_opened;
-use crate::turn::network_of;
 use crate::turn::session_of;
 use crate::turn::turn;
 use calculus::state::State;
@@ -10,6 +9,7 @@ use forms::line::Line;
 use forms::read::read;
 use lines::line_at;
 use lookups::blank::blank_part;
+use networks::after::network_of;
 use reports::put_answers;
 use tables::part::pack;
 use tables::part::unpack;

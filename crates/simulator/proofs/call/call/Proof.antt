@@ -1,4 +1,4 @@
--- `call::call` meets its contract: a short output is refused, and what a line asks is in range. Assumes nothing.
+-- `call::call` meets its contract: a short output is refused, and a line's session is one of the eight. Assumes nothing.
 use mathlib.Core.Path.{_≡_, refl}
 use mathlib.Core.Bool.{true, cond}
 use lib.ListN.{length}
@@ -11,9 +11,8 @@ use Rattle.forms.specs.Read.{read}
 use Rattle.model.specs.Calls.{answered}
 use Rattle.model.specs.State.{store}
 use Rattle.model.specs.Turn.{isOk, networkOf}
-use Rattle.simulator.specs.Range.{Ranged}
 use Rattle.simulator.specs.Reply.{Replies}
-use Rattle.simulator.proofs.Range.{asked-ranged, asked-session}
+use Rattle.simulator.proofs.Range.{asked-session}
 use Rattle.simulator.proofs.Replied.{replied}
 use Rattle.simulator.proofs.call.call.Statement.{statement}
 use Rattle.simulator.proofs.call.call.Tie as tie
@@ -21,10 +20,6 @@ use Rattle.simulator.proofs.call.call.Tie as tie
 returns : tie.Need-returns
 unfolding answered
 returns c = rw (lt-ltb _ _ (c .if1 .taken)) (record { reply = refl; output = refl })
-
--- what the line asks is in range
-ranged : (c : tie.After-read) → Ranged (c .read .result .parsed)
-ranged c = rw (c .read .ensures) (asked-ranged (read (c .before .before .before .before .args .line .now)))
 
 -- the session that the line names
 numbered : (c : tie.After-session-of) → isSession (c .session-of .result .0) ≡ true
@@ -93,7 +88,7 @@ call-spec =
     (λ c κs. search needs)
     (λ c κs. search needs)
     (λ c κs. search needs)
-    (λ c κs. ranged (c .before .before .before .before .before .before .before .before .before .before .before .before .before .before .before .before .before .before .before .before))
+    (λ c κs. search needs)
     (λ c. search needs)
     returns-2
     (λ c. search needs)

@@ -9,7 +9,7 @@ use Rattle.calculus.specs.declared.network.Network.{Network}
 use Rattle.calculus.proofs.Tests.{join}
 use Rattle.model.specs.Turn.{isOk, networkOf}
 use Rattle.simulator.proofs.Batches.{Answering, answering-first, answering-more, answering-over, answering-last}
-use Rattle.simulator.proofs.Batches.{Next, next-found, Reads, reads-numbered, reads-ranged}
+use Rattle.simulator.proofs.Batches.{Next, next-found, Reads, reads-numbered}
 use Rattle.tables.proofs.Sizes.{state-sized, part-whole}
 use Rattle.simulator.proofs.calls.calls.Statement.{statement}
 use Rattle.simulator.proofs.calls.calls.Tie as tie
@@ -111,7 +111,7 @@ calls-spec =
     (λ c κs. search needs)
     (λ c κs. search needs)
     (λ c κs. search needs)
-    (λ c κs. reads-ranged (reads (behind (c .before .before .before .before .before .before))))
+    (λ c κs. search needs)
     (λ c. omega (arith, found (behind (c .before .before .before .before .before .before .before) .before .before .before)))
     loop-again
     (λ c. omega (arith, found (behind (c .before .before .before .before) .before .before .before)))

@@ -1,8 +1,8 @@
--- `turn::is_route_unknown` meets its contract. Assumes nothing.
+-- `route::is_route_unknown` meets its contract. Assumes nothing.
 use borrow.Author.Needs.{needs}
 use Rattle.calculus.proofs.Tests.{join}
-use Rattle.simulator.proofs.turn.is_route_unknown.Statement.{statement}
-use Rattle.simulator.proofs.turn.is_route_unknown.Tie as tie
+use Rattle.networks.proofs.route.is_route_unknown.Statement.{statement}
+use Rattle.networks.proofs.route.is_route_unknown.Tie as tie
 
 returns : tie.Need-returns
 returns c =

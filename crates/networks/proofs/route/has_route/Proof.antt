@@ -1,8 +1,8 @@
--- `turn::has_route` meets its contract. Assumes nothing.
+-- `route::has_route` meets its contract. Assumes nothing.
 use borrow.Author.Needs.{needs}
 use Rattle.calculus.proofs.Tests.{join}
-use Rattle.simulator.proofs.turn.has_route.Statement.{statement}
-use Rattle.simulator.proofs.turn.has_route.Tie as tie
+use Rattle.networks.proofs.route.has_route.Statement.{statement}
+use Rattle.networks.proofs.route.has_route.Tie as tie
 
 returns : tie.Need-returns
 returns c = simp (join (c .before .before .next-hop .ensures) (c .enum-told .given .1))

@@ -1,7 +1,7 @@
--- `turn::is_same` meets its contract. Assumes nothing.
+-- `route::is_same` meets its contract. Assumes nothing.
 use borrow.Author.Tests.{eq-eqb, ne-eqb}
-use Rattle.simulator.proofs.turn.is_same.Statement.{statement}
-use Rattle.simulator.proofs.turn.is_same.Tie as tie
+use Rattle.networks.proofs.route.is_same.Statement.{statement}
+use Rattle.networks.proofs.route.is_same.Tie as tie
 
 returns : tie.Need-returns
 returns c = simp (eq-eqb _ _ (c .if1 .taken))

@@ -1,9 +1,9 @@
--- `turn::route_answer` meets its contract. Assumes nothing.
+-- `route::route_answer` meets its contract. Assumes nothing.
 use borrow.Author.Needs.{needs}
 use Rattle.calculus.proofs.Tests.{join}
 use Rattle.model.specs.Requests.{checked}
-use Rattle.simulator.proofs.turn.route_answer.Statement.{statement}
-use Rattle.simulator.proofs.turn.route_answer.Tie as tie
+use Rattle.networks.proofs.route.route_answer.Statement.{statement}
+use Rattle.networks.proofs.route.route_answer.Tie as tie
 
 returns : tie.Need-returns
 unfolding checked

@@ -1,4 +1,4 @@
--- `turn::node_answer` meets its contract. Assumes nothing.
+-- `node::node_answer` meets its contract. Assumes nothing.
 use borrow.Author.Needs.{needs}
 use mathlib.Core.Path.{_≡_, refl}
 use mathlib.Core.Bool.{cond}
@@ -7,8 +7,8 @@ use Rattle.calculus.specs.declared.answer.Answer.{Answer}
 use Rattle.calculus.specs.declared.answer.Answer.the-variants.{No}
 use Rattle.calculus.proofs.Tests.{join}
 use Rattle.model.specs.Requests.{Check, checked}
-use Rattle.simulator.proofs.turn.node_answer.Statement.{statement}
-use Rattle.simulator.proofs.turn.node_answer.Tie as tie
+use Rattle.networks.proofs.node.node_answer.Statement.{statement}
+use Rattle.networks.proofs.node.node_answer.Tie as tie
 
 -- the first test is made first
 checked-cons : (k : Check) (ks : List Check) (x : Answer) → checked No (k ∷ ks) x ≡ cond (k .0) (No (k .1)) (checked No ks x)

@@ -1,7 +1,7 @@
--- `turn::network_with` meets its contract, by the request's variants. Assumes nothing.
+-- `after::network_with` meets its contract, by the request's variants. Assumes nothing.
 use borrow.Author.Needs.{needs}
-use Rattle.simulator.proofs.turn.network_with.Statement.{statement}
-use Rattle.simulator.proofs.turn.network_with.Tie as tie
+use Rattle.networks.proofs.after.network_with.Statement.{statement}
+use Rattle.networks.proofs.after.network_with.Tie as tie
 
 returns : tie.Need-returns
 returns c = simp (c .with-node .ensures, c .before .before .q .given .1)
@@ -14,9 +14,9 @@ network-with-spec =
     tie.close
     (tie.spec
     (λ c. search needs)
-    (λ c κs. rw (c .before .q .given .1) at (c .before .before .before .pre))
+    (λ c κs. search needs)
     (λ c. search needs)
-    (λ c κs. rw (c .before .q2 .given .1) at (c .before .before .before .pre))
+    (λ c κs. search needs)
     (λ c. search needs)
     (λ c. search needs)
     (λ c. search needs)

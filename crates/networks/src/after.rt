@@ -1,0 +1,81 @@
+// The network that an accepted node or route call leaves.
+use calculus::network::Kind;
+use calculus::network::Network;
+use calculus::network::Node;
+use calculus::request::Request;
+use forms::read::Parsed;
+ghost use mathlib.Core.Path.{_≡_};
+ghost use Prim.Native.Nat.{_-_};
+ghost use Rattle.model.specs.Requests as spec;
+ghost use Rattle.model.specs.Turn as turns;
+
+// The place of a node; 0 has that of node 1.
+fn place(a: u8) -> usize
+    ensures { λ r. ⌜ r ≡ a - 1 ⌝ }
+{
+    if a == 0 {
+        return 0;
+    }
+    a as usize - 1
+}
+
+// A number past the nodes has no place: nothing is stored. So it is with routes.
+fn with_node(n: Network, a: u8, kind: Kind, has: [bool; 64], needs: [bool; 64]) -> Network
+    ensures { λ r. ⌜ r ≡ spec.withNode n a kind has needs ⌝ }
+{
+    let at = place(a);
+    let mut next = n;
+    if at < 32 {
+        let node = Node {
+            given: true,
+            kind,
+            has,
+            needs,
+        };
+        next.nodes[at] = node;
+    }
+    next
+}
+
+fn with_route(n: Network, a: u8, b: u8, hop: u8) -> Network
+    ensures { λ r. ⌜ r ≡ spec.withRoute n a b hop ⌝ }
+{
+    let at = 32 * place(a) + place(b);
+    let mut next = n;
+    if at < 1024 {
+        next.routes[at] = hop;
+    }
+    next
+}
+
+fn network_with(n: Network, has: [bool; 64], needs: [bool; 64], q: Request) -> Network
+    ensures { λ r. ⌜ r ≡ turns.networkWith n has needs q ⌝ }
+{
+    match q {
+        Request::Node(a, kind) => with_node(n, a, kind, has, needs),
+        Request::Route {
+            at,
+            destination,
+            next,
+        } => with_route(n, at, destination, next),
+        Request::Open {
+            session: _,
+            client: _,
+            server: _,
+        } => n,
+        Request::Step(_, _) => n,
+        Request::Send(_, _, _) => n,
+        Request::Close(_) => n,
+        Request::Show => n,
+    }
+}
+
+// The network once an accepted node or route call has given its part; `n` where another line was read.
+pub fn network_of(n: Network, has: [bool; 64], needs: [bool; 64], p: Parsed) -> Network
+    ensures { λ r. ⌜ r ≡ turns.networkOf n has needs p ⌝ }
+{
+    match p {
+        Parsed::Asks(q) => network_with(n, has, needs, q),
+        Parsed::Refused(_) => n,
+    }
+}
