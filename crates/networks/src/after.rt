@@ -19,7 +19,7 @@ fn place(a: u8) -> usize
     a as usize - 1
 }
 
-// A number past the nodes has no place: nothing is stored. So it is with routes.
+// Past the end of a table nothing is stored, as the definition has it.
 fn with_node(n: Network, a: u8, kind: Kind, has: [bool; 64], needs: [bool; 64]) -> Network
     ensures { λ r. ⌜ r ≡ spec.withNode n a kind has needs ⌝ }
 {

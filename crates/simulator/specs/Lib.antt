@@ -1,3 +1,3 @@
--- What the contracts of `simulator` cite: `Reply` and `Batch` those of the public functions, the others those of private ones.
+-- What the contracts of `simulator` cite.
 pub mod Reply
 pub mod Batch
