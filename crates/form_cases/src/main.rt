@@ -1,4 +1,6 @@
 // Writes what each line of the input asks, then answers of each kind, with every loss and every refusal.
+use answers::write::Written;
+use answers::write::write;
 use calculus::answer::Answer;
 use calculus::answer::Loss;
 use calculus::answer::Refusal;
@@ -11,8 +13,6 @@ use forms::line::Line;
 use forms::line::next_line;
 use forms::read::Parsed;
 use forms::read::read;
-use forms::write::Written;
-use forms::write::write;
 use libc::STDIN_FILENO;
 use libc::STDOUT_FILENO;
 

@@ -10,7 +10,5 @@ pub mod Loops
 pub mod Parts
 pub mod Held
 pub mod Tallies
-pub mod Sets
-pub mod Widths
 pub mod Splits
 pub mod Cases

@@ -14,6 +14,10 @@ use Rattle.calculus.proofs.Tests.{within-bounds}
 use Rattle.forms.specs.declared.scan.Number.the-variants.{Found, Missing}
 use Rattle.forms.specs.Read.{starts, isDigit, scan, number}
 
+-- a list from place i on, by its first element
+pub drop-next : (l : List ℕ) (i : ℕ) → i < length l → drop i l ≡ getD l i 0 ∷ drop (i + 1) l
+drop-next l i h = rw (add-one, drop-cons l i 0)
+
 -- the first i bytes of w are those of s
 pub record Matched (w s : List ℕ) (i : ℕ) : Type 0 where
   pub inside : i ≤ length w

@@ -12,7 +12,7 @@ use lib.Seq.{drop-drop}
 use Rattle.calculus.proofs.Tests.{Way, is, isnt, way, clash}
 use Rattle.forms.specs.declared.line.Line.the-variants.{Found, End}
 use Rattle.forms.specs.Line.{lineLength, lineTo, nextLine, withFirst, lines, linesBy, SplitsLines}
-use Rattle.forms.proofs.Sets.{drop-next}
+use Rattle.forms.proofs.Loops.{drop-next}
 
 -- ---- the end of a line
 

@@ -5,6 +5,5 @@ pub mod Read
 pub mod Request
 pub mod Held
 pub mod Answer
-pub mod Put
 pub mod Line
 pub mod Exact

@@ -1,4 +1,4 @@
-// The form language: a line read as a form, answers written as bytes, input split into lines.
+// The form language: a line read as a form, input split into lines.
 mod fields;
 pub mod line;
 mod list;
@@ -6,4 +6,3 @@ mod node;
 pub mod read;
 mod reading;
 mod scan;
-pub mod write;

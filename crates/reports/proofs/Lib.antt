@@ -1,4 +1,3 @@
 -- Laws that belong to no one function.
 pub mod Lines
 pub mod Shown
-pub mod Widths

@@ -9,8 +9,8 @@ use lib.Seq.{length-sets}
 use borrow.Author.Tests.{le-leb}
 use Rattle.calculus.specs.declared.answer.Answer.{Answer}
 use Rattle.forms.specs.Answer.{answerText}
-use Rattle.forms.specs.Put.{Put}
-use Rattle.forms.proofs.Sets.{put-none, put-append}
+use Rattle.answers.specs.Put.{Put}
+use Rattle.answers.proofs.Sets.{put-none, put-append}
 use Rattle.reports.specs.Lines.{texts, Puts}
 use Rattle.reports.specs.Report.{hasRoom, Reports}
 

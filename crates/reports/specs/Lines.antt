@@ -5,7 +5,7 @@ use lib.ListN.{length}
 use Rattle.calculus.specs.declared.answer.Answer.{Answer}
 use Rattle.forms.specs.Answer.{answerText}
 use Rattle.forms.specs.Bytes.{joined}
-use Rattle.forms.specs.Put.{Put}
+use Rattle.answers.specs.Put.{Put}
 
 -- the answers' lines, one after the other
 abbrev pub texts : List Answer → List ℕ

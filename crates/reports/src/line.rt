@@ -1,7 +1,7 @@
 // An answer's line, written into the lent output. Every report writes its lines here.
+use answers::write::Written;
+use answers::write::write;
 use calculus::answer::Answer;
-use forms::write::Written;
-use forms::write::write;
 ghost use mathlib.Core.List.{[], _∷_};
 ghost use Prim.Native.Nat.{_+_, _≤_};
 ghost use lib.ListN.{length};

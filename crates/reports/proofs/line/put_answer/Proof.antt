@@ -8,11 +8,12 @@ use borrow.Author.Needs.{needs}
 use borrow.Author.Tests.{le-leb}
 use Rattle.calculus.proofs.Tests.{join, clash}
 use Rattle.calculus.specs.declared.answer.Answer.{Answer}
-use Rattle.forms.specs.declared.write.Written.{Written}
-use Rattle.forms.specs.declared.write.Written.the-variants.{Next, Full}
-use Rattle.forms.specs.Answer.{answerText, Writes}
-use Rattle.forms.specs.Put.{Put}
-use Rattle.reports.proofs.Widths.{answer-width}
+use Rattle.answers.specs.declared.write.Written.{Written}
+use Rattle.answers.specs.declared.write.Written.the-variants.{Next, Full}
+use Rattle.answers.specs.Write.{Writes}
+use Rattle.forms.specs.Answer.{answerText}
+use Rattle.answers.specs.Put.{Put}
+use Rattle.answers.proofs.Widths.{answer-width}
 use Rattle.reports.proofs.Lines.{puts-one}
 use Rattle.reports.proofs.line.put_answer.Statement.{statement}
 use Rattle.reports.proofs.line.put_answer.Tie as tie

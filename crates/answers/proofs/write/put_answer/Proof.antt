@@ -1,10 +1,10 @@
 -- `write::put_answer` meets its contract: each variant has its text, and none has more than 32 bytes. Assumes nothing.
 use native.Mathlib.Omega.{arith}
 use borrow.Author.Needs.{needs}
 use Rattle.forms.specs.Answer.{answerText}
-use Rattle.forms.proofs.Widths.{line-one, line-two, assoc-whole}
-use Rattle.forms.proofs.write.put_answer.Statement.{statement}
-use Rattle.forms.proofs.write.put_answer.Tie as tie
+use Rattle.answers.proofs.Widths.{line-one, line-two, assoc-whole}
+use Rattle.answers.proofs.write.put_answer.Statement.{statement}
+use Rattle.answers.proofs.write.put_answer.Tie as tie
 
 put-one-requires : tie.Need-put-one-requires
 put-one-requires c κs =

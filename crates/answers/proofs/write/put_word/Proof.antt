@@ -3,9 +3,10 @@ use Prim.Native.Nat.{_-_}
 use native.Mathlib.Omega.{arith}
 use borrow.Author.Needs.{needs}
 use lib.ListN.{length, drop, drop-of-length-le, length-drop}
-use Rattle.forms.proofs.Sets.{drop-next, Left, left-all, left-part, left-last, put-none}
-use Rattle.forms.proofs.write.put_word.Statement.{statement}
-use Rattle.forms.proofs.write.put_word.Tie as tie
+use Rattle.forms.proofs.Loops.{drop-next}
+use Rattle.answers.proofs.Sets.{Left, left-all, left-part, left-last, put-none}
+use Rattle.answers.proofs.write.put_word.Statement.{statement}
+use Rattle.answers.proofs.write.put_word.Tie as tie
 
 abbrev Inv-loop : tie.InvT-loop
 Inv-loop out₀ at word next₀ i₀ out next i = Left out₀ at word out next (drop i word)

@@ -1,17 +1,12 @@
 -- Laws of texts put into an output, part by part. Assumes nothing.
 use mathlib.Core.Path.{_≡_, refl, sym, ap, _∙_}
 use mathlib.Core.List.{List, [], _∷_, _++_}
-use Prim.Native.Nat.{ℕ, suc, _+_, _<_}
+use Prim.Native.Nat.{ℕ, suc, _+_}
 use native.Mathlib.Nat.{add-zero}
-use native.Mathlib.Numerals.{add-one}
 use native.Mathlib.Omega.{arith}
-use lib.ListN.{length, getD, drop, set, length-append}
-use lib.Seq.{drop-cons, sets, length-sets}
-use Rattle.forms.specs.Put.{Put}
-
--- a list from place i on, by its first element
-pub drop-next : (l : List ℕ) (i : ℕ) → i < length l → drop i l ≡ getD l i 0 ∷ drop (i + 1) l
-drop-next l i h = rw (add-one, drop-cons l i 0)
+use lib.ListN.{length, set, length-append}
+use lib.Seq.{sets, length-sets}
+use Rattle.answers.specs.Put.{Put}
 
 -- a text in two parts is put part by part
 sets-append : (l : List ℕ) (at : ℕ) (bs cs : List ℕ) → sets l at (bs ++ cs) ≡ sets (sets l at bs) (at + length bs) cs

@@ -5,12 +5,13 @@ use Prim.Native.Nat.{ℕ, _+_, _-_, _≤_, _<_}
 use native.Mathlib.Omega.{arith}
 use borrow.Author.Needs.{needs}
 use lib.ListN.{length, getD, drop, drop-of-length-le}
 use Rattle.forms.specs.Bytes.{bytes, decimal}
 use Rattle.forms.specs.Text.{listText}
-use Rattle.forms.proofs.Sets.{drop-next, Left, left-all, left-part, left-last}
+use Rattle.forms.proofs.Loops.{drop-next}
+use Rattle.answers.proofs.Sets.{Left, left-all, left-part, left-last}
 use Rattle.forms.proofs.Lists.{width-list}
-use Rattle.forms.proofs.write.put_numbers.Statement.{statement}
-use Rattle.forms.proofs.write.put_numbers.Tie as tie
+use Rattle.answers.proofs.write.put_numbers.Statement.{statement}
+use Rattle.answers.proofs.write.put_numbers.Tie as tie
 
 module _ (ns : List ℕ) (i : ℕ) where
   list-next : i < length ns → listText (drop i ns) ≡ bytes " " ++ (decimal (getD ns i 0) ++ listText (drop (i + 1) ns))

@@ -5,10 +5,11 @@ ghost use Prim.Native.Nat.{_+_, _≤_, _<_};
 ghost use mathlib.Core.Path.{_≡_};
 ghost use mathlib.Core.List.{[], _∷_};
 ghost use lib.ListN.{length};
 ghost use Rattle.forms.specs.Bytes.{decimal};
 ghost use Rattle.forms.specs.Text.{listText};
-ghost use Rattle.forms.specs.Answer.{lineText, directionText, assocText, answerText, Writes};
-ghost use Rattle.forms.specs.Put.{Put};
+ghost use Rattle.forms.specs.Answer.{lineText, directionText, assocText, answerText};
+ghost use Rattle.answers.specs.Write.{Writes};
+ghost use Rattle.answers.specs.Put.{Put};
 
 // No answer's line has more bytes.
 const LONGEST: usize = 32;

@@ -7,11 +7,12 @@ use borrow.Author.Needs.{needs}
 use borrow.Author.Tests.{le-leb, lt-leb}
 use lib.ListN.{length}
 use Rattle.calculus.specs.declared.answer.Answer as answer
-use Rattle.forms.specs.declared.write.Written.the-variants.{Next, Full}
-use Rattle.forms.specs.Answer.{answerText, Writes}
-use Rattle.forms.specs.Put.{Put}
-use Rattle.forms.proofs.write.write.Statement.{statement}
-use Rattle.forms.proofs.write.write.Tie as tie
+use Rattle.answers.specs.declared.write.Written.the-variants.{Next, Full}
+use Rattle.forms.specs.Answer.{answerText}
+use Rattle.answers.specs.Write.{Writes}
+use Rattle.answers.specs.Put.{Put}
+use Rattle.answers.proofs.write.write.Statement.{statement}
+use Rattle.answers.proofs.write.write.Tie as tie
 
 writes-full : {l : List ℕ} {at : ℕ} {a : answer.Answer} → length l < at + 32 → Writes l at a l Full
 writes-full {l} {at} h = let e = lt-leb (at + 32) (length l) h in record { result = rw e; left = rw e }

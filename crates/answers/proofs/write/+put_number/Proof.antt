@@ -6,17 +6,17 @@ use native.Mathlib.Omega.{arith}
 use borrow.Author.Needs.{needs}
 use borrow.Fn.Kinds.{In}
 use borrow.Fn.PlainCycle.{Measures, is, falls, and}
 use Rattle.forms.specs.Bytes.{decimal}
-use Rattle.forms.specs.Put.{Put}
+use Rattle.answers.specs.Put.{Put}
 use Rattle.forms.proofs.Decimal.{decimal-small, decimal-large, width-large, width-some}
-use Rattle.forms.proofs.Sets.{put-append}
-use Rattle.forms.proofs.write.put_number.Reads as put-number
-use Rattle.forms.proofs.write.put_number.Kinds as put-number-kinds
-use Rattle.forms.proofs.write.+put_number.Lts-put_number as lts
-use Rattle.forms.proofs.write.digit.Reads as digit-reads
-use Rattle.forms.proofs.write.put_byte.Reads as put-byte-reads
-use Rattle.forms.proofs.write.+put_number.{statement}
-use Rattle.forms.proofs.write.+put_number.Tie.{close}
+use Rattle.answers.proofs.Sets.{put-append}
+use Rattle.answers.proofs.write.put_number.Reads as put-number
+use Rattle.answers.proofs.write.put_number.Kinds as put-number-kinds
+use Rattle.answers.proofs.write.+put_number.Lts-put_number as lts
+use Rattle.answers.proofs.write.digit.Reads as digit-reads
+use Rattle.answers.proofs.write.put_byte.Reads as put-byte-reads
+use Rattle.answers.proofs.write.+put_number.{statement}
+use Rattle.answers.proofs.write.+put_number.Tie.{close}
 
 put-small : {l m : List ℕ} {at p n d : ℕ} → n < 10 → d ≡ 48 + n → Put l at (d ∷ []) m p → Put l at (decimal n) m p
 put-small h e f = rw (decimal-small _ h, ← e) f

@@ -1,4 +1,4 @@
--- A text put into an output. Private functions of `forms` and `simulator` cite it. Assumes nothing.
+-- A text put into an output. Private functions of `answers` and `reports` cite it. Assumes nothing.
 use Prim.Native.Nat.{ℕ, _+_}
 use mathlib.Core.Path.{_≡_}
 use mathlib.Core.List.{List}
