@@ -9,5 +9,7 @@ pub mod lists;
 pub mod network;
 pub mod program;
 pub mod random;
+pub mod script;
 pub mod simulator;
+pub mod small;
 pub mod topology;

@@ -2,13 +2,13 @@
 
 use std::io::{BufRead, BufReader, Read, Write};
 use std::path::PathBuf;
-use std::process::{Child, ChildStdin, ChildStdout, Command, ExitStatus, Stdio};
+use std::process::{Child, ChildStderr, ChildStdin, ChildStdout, Command, ExitStatus, Stdio};
 use std::sync::mpsc::{channel, Receiver, Sender};
 use std::thread;
 use std::time::{Duration, Instant};
 
 /// The longest that a run, or the wait for one answer, may take.
-const LIMIT: Duration = Duration::from_secs(120);
+pub const LIMIT: Duration = Duration::from_secs(120);
 
 /// The program under test: the built one, or the one that SIMULATE names.
 pub fn command() -> Command {
@@ -47,15 +47,14 @@ impl Running {
         self.child.stdout.take().expect("the output is taken once")
     }
 
+    /// What it says on standard error, where the command has a pipe for that.
+    pub fn take_messages(&mut self) -> ChildStderr {
+        self.child.stderr.take().expect("the messages are taken once")
+    }
+
     /// The whole output; the program must end with status 0.
     pub fn finish(mut self) -> Vec<u8> {
-        let mut stdout = self.take_output();
-        let output = in_thread(move |sender| {
-            let mut output = Vec::new();
-            stdout.read_to_end(&mut output).expect("the output is read");
-            drop(sender.send(output));
-        });
-        let output = output.recv_timeout(LIMIT).expect("the program ends its output in time");
+        let output = Whole::of(self.take_output()).receive();
         let status = self.wait();
         assert!(status.success(), "the program ended with {status}");
         output
@@ -99,6 +98,24 @@ impl Drop for Running {
         // Both fail only where the process has already ended.
         drop(self.child.kill());
         drop(self.child.wait());
+    }
+}
+
+/// All that comes from a pipe, read while the process goes on.
+pub struct Whole(Receiver<Vec<u8>>);
+
+impl Whole {
+    pub fn of(mut pipe: impl Read + Send + 'static) -> Self {
+        Whole(in_thread(move |sender| {
+            let mut bytes = Vec::new();
+            pipe.read_to_end(&mut bytes).expect("the output is read");
+            drop(sender.send(bytes));
+        }))
+    }
+
+    /// The whole, once it has ended; an end past the limit fails the test.
+    pub fn receive(&self) -> Vec<u8> {
+        self.0.recv_timeout(LIMIT).expect("the program ends its output in time")
     }
 }
 
