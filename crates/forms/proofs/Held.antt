@@ -1,35 +1,50 @@
 -- What the reader's private functions hold is what the definitions say. Assumes nothing.
-use mathlib.Core.Path.{_≡_, sym, ap}
+use mathlib.Core.Path.{_≡_, refl, sym, ap, _∙_}
 use mathlib.Core.Bool.{Bool, true, false, cond, _&&_}
 use mathlib.Core.List.{List}
-use mathlib.Core.Option.{none, some}
+use mathlib.Core.Option.{Option, none, some}
 use Prim.Native.Nat.{ℕ, _≤_}
 use native.Mathlib.Omega.{arith}
 use borrow.Author.Tests.{eqb-true}
 use lib.Dec.{eqb}
-use lib.ListN.{length, take}
+use lib.ListN.{length, getD, take}
 use lib.Seq.{length-take-le}
-use Rattle.calculus.proofs.Tests.{Way, is, isnt, way, both}
+use Rattle.calculus.specs.Number.{within}
+use Rattle.calculus.specs.declared.answer.Refusal.the-variants.{Unreadable}
+use Rattle.calculus.proofs.Tests.{Way, is, isnt, way, both, within-bounds}
+use Rattle.forms.specs.declared.fields.Fields.{Fields}
 use Rattle.forms.specs.declared.list.ListRead as listRead
 use Rattle.forms.specs.declared.node.Tally.{Tally}
-use Rattle.forms.specs.Read.{list, fields}
+use Rattle.forms.specs.declared.read.Parsed.the-variants.{Refused}
+use Rattle.forms.specs.declared.read.Reading.{Reading}
+use Rattle.forms.specs.Text.{Form}
+use Rattle.forms.specs.Read.{list, fields, formWith}
+use Rattle.forms.specs.Request.{plain, reading, asked}
 use Rattle.forms.specs.Held.{Filled, listIn, firsts, fieldsIn, fresh, tallied, gathered}
 use Rattle.forms.proofs.Lists.{firsts-all}
 
 -- ---- tests joined
 
--- what a conjunction of three results says of what they are
-pub flags : {x y z b r p q s t : Bool} → x ≡ p → y ≡ q → z ≡ s → b ≡ (y && z) → r ≡ (x && b) → r ≡ t → (p && (q && s)) ≡ t
-flags e f g h i j = cc
-
+-- what the conjunction of two or three results says of what they are
 pub both-flags : {x y r p q t : Bool} → x ≡ p → y ≡ q → r ≡ (x && y) → r ≡ t → (p && q) ≡ t
 both-flags e f h j = cc
 
-pub all-three : (a b c : Bool) → (a && (b && c)) ≡ true → (a ≡ true) × (b ≡ true) × (c ≡ true)
-all-three a b c e =
-    let h = both a (b && c) e in
-    let k = both b c (h .1) in
-    (h .0, k .0, k .1)
+pub all-flags : {x y z r p q s t : Bool} → x ≡ p → y ≡ q → z ≡ s → r ≡ (x && (y && z)) → r ≡ t → (p && (q && s)) ≡ t
+all-flags e f g h j = cc
+
+-- the bounds of the first numbers of v, which are in range
+module _ (v : List ℕ) (low high low′ high′ : ℕ) {x y r : Bool} (e : x ≡ within low high (getD v 0 0)) (f : y ≡ within low′ high′ (getD v 1 0)) where
+  pub both-within : r ≡ (x && y) → r ≡ true → (getD v 0 0 ≤ high) × (getD v 1 0 ≤ high′)
+  both-within g t =
+      let q = both _ _ (both-flags e f g t) in
+      (within-bounds low high _ (q .0) .1, within-bounds low′ high′ _ (q .1) .1)
+
+  pub all-within : (low″ high″ : ℕ) {z : Bool} → z ≡ within low″ high″ (getD v 2 0) → r ≡ (x && (y && z)) → r ≡ true
+      → (getD v 0 0 ≤ high) × (getD v 1 0 ≤ high′) × (getD v 2 0 ≤ high″)
+  all-within low″ high″ g k t =
+      let q = both _ _ (all-flags e f g k t) in
+      let s = both _ _ (q .1) in
+      (within-bounds low high _ (q .0) .1, within-bounds low′ high′ _ (s .0) .1, within-bounds low″ high″ _ (s .1) .1)
 
 -- ---- the numbers of a form
 
@@ -66,3 +81,13 @@ module _ {l before after : List ℕ} {r : listRead.ListRead} (f : Filled l befor
 
   pub gathered-broken : {t : Tally} → length before ≡ 200 → r ≡ listRead.the-variants.Broken → t ≡ fresh → record { ok = false; tally = t; used = 0 } ≡ gathered (list 10 200 0 l)
   gathered-broken h e q = rw (filled-list h e, q)
+
+-- ---- a form of numbers
+
+-- what a form of n numbers asks, by the numbers f that were read
+module _ (form : List ℕ → Form) (n : ℕ) (f : Fields) {o : Option (List ℕ)} {r : Reading} (e : fieldsIn n f ≡ o) where
+  pub form-read : f .ok ≡ true → r ≡ reading (form (firsts n (f .values))) → r ≡ asked (formWith form o)
+  form-read q h = h ∙ rw (← e, q)
+
+  pub form-broken : f .ok ≡ false → r ≡ plain (Refused Unreadable) → r ≡ asked (formWith form o)
+  form-broken q h = h ∙ rw (← e, q)

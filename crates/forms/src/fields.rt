@@ -47,17 +47,25 @@ pub fn both(a: bool, b: bool) -> bool
     if a { b } else { false }
 }
 
-// What `(route` asks with these numbers; refusal 1 where there are not three, 2 where one is out of range. So for the others.
-pub fn route_of(f: Fields) -> Reading
-    ensures { λ r. ⌜ r ≡ asked (spec.formWith spec.routeWith (fieldsIn 3 f)) ⌝ }
+// All of three tests.
+pub fn all(a: bool, b: bool, c: bool) -> bool
+    ensures { λ r. ⌜ r ≡ (a && (b && c)) ⌝ }
 {
+    if a { both(b, c) } else { false }
+}
+
+// What stands behind `(route` asks; refusal 1 where it is not three numbers to the end, 2 where one is out of range. So for the others.
+pub fn route_at(s: &[u8]) -> Reading
+    ensures { λ r. ⌜ r ≡ asked (spec.formWith spec.routeWith (spec.fields 10 3 (now (s .entry)))) ⌝ }
+{
+    let f = read_fields(s, 3);
     let ok = f.ok;
     if ok {
         let values = f.values;
         let at = values[0];
         let destination = values[1];
         let next = values[2];
-        if both(is_node(at), both(is_node(destination), is_node(next))) {
+        if all(is_node(at), is_node(destination), is_node(next)) {
             asks(Request::Route {
                 at: at as u8,
                 destination: destination as u8,
@@ -71,17 +79,18 @@ pub fn route_of(f: Fields) -> Reading
     }
 }
 
-// What `(open` asks.
-pub fn open_of(f: Fields) -> Reading
-    ensures { λ r. ⌜ r ≡ asked (spec.formWith spec.openWith (fieldsIn 3 f)) ⌝ }
+// What stands behind `(open` asks.
+pub fn open_at(s: &[u8]) -> Reading
+    ensures { λ r. ⌜ r ≡ asked (spec.formWith spec.openWith (spec.fields 10 3 (now (s .entry)))) ⌝ }
 {
+    let f = read_fields(s, 3);
     let ok = f.ok;
     if ok {
         let values = f.values;
         let session = values[0];
         let client = values[1];
         let server = values[2];
-        if both(is_session(session), both(is_node(client), is_node(server))) {
+        if all(is_session(session), is_node(client), is_node(server)) {
             asks(Request::Open {
                 session: SessionNumber(session as u8),
                 client: client as u8,
@@ -95,10 +104,11 @@ pub fn open_of(f: Fields) -> Reading
     }
 }
 
-// What `(step` asks.
-pub fn step_of(f: Fields) -> Reading
-    ensures { λ r. ⌜ r ≡ asked (spec.formWith spec.stepWith (fieldsIn 2 f)) ⌝ }
+// What stands behind `(step` asks.
+pub fn step_at(s: &[u8]) -> Reading
+    ensures { λ r. ⌜ r ≡ asked (spec.formWith spec.stepWith (spec.fields 10 2 (now (s .entry)))) ⌝ }
 {
+    let f = read_fields(s, 2);
     let ok = f.ok;
     if ok {
         let values = f.values;
@@ -114,17 +124,18 @@ pub fn step_of(f: Fields) -> Reading
     }
 }
 
-// What `(send` asks.
-pub fn send_of(f: Fields) -> Reading
-    ensures { λ r. ⌜ r ≡ asked (spec.formWith spec.sendWith (fieldsIn 3 f)) ⌝ }
+// What stands behind `(send` asks.
+pub fn send_at(s: &[u8]) -> Reading
+    ensures { λ r. ⌜ r ≡ asked (spec.formWith spec.sendWith (spec.fields 10 3 (now (s .entry)))) ⌝ }
 {
+    let f = read_fields(s, 3);
     let ok = f.ok;
     if ok {
         let values = f.values;
         let session = values[0];
         let which = values[1];
         let tag = values[2];
-        if both(is_session(session), both(within(which, 0, 1), is_tag(tag))) {
+        if all(is_session(session), within(which, 0, 1), is_tag(tag)) {
             asks(Request::Send(
                 SessionNumber(session as u8),
                 Sender::numbered(which),
@@ -138,10 +149,11 @@ pub fn send_of(f: Fields) -> Reading
     }
 }
 
-// What `(close` asks.
-pub fn close_of(f: Fields) -> Reading
-    ensures { λ r. ⌜ r ≡ asked (spec.formWith spec.closeWith (fieldsIn 1 f)) ⌝ }
+// What stands behind `(close` asks.
+pub fn close_at(s: &[u8]) -> Reading
+    ensures { λ r. ⌜ r ≡ asked (spec.formWith spec.closeWith (spec.fields 10 1 (now (s .entry)))) ⌝ }
 {
+    let f = read_fields(s, 1);
     let ok = f.ok;
     if ok {
         let values = f.values;
@@ -156,10 +168,11 @@ pub fn close_of(f: Fields) -> Reading
     }
 }
 
-// What `(show` asks.
-pub fn show_of(f: Fields) -> Reading
-    ensures { λ r. ⌜ r ≡ asked (spec.formWith spec.showWith (fieldsIn 0 f)) ⌝ }
+// What stands behind `(show` asks.
+pub fn show_at(s: &[u8]) -> Reading
+    ensures { λ r. ⌜ r ≡ asked (spec.formWith spec.showWith (spec.fields 10 0 (now (s .entry)))) ⌝ }
 {
+    let f = read_fields(s, 0);
     let ok = f.ok;
     if ok {
         asks(Request::Show)

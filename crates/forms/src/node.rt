@@ -1,4 +1,5 @@
 // A node's form, from behind its word.
+use crate::fields::all;
 use crate::fields::both;
 use crate::list::ListRead;
 use crate::list::read_list;
@@ -108,7 +109,7 @@ fn read_credentials(s: &[u8]) -> Credentials
 fn node_of(node: u64, kind: Kind, has: Tally, needs: Tally) -> Reading
     ensures { λ r. ⌜ r ≡ held.nodeReading node kind has needs ⌝ }
 {
-    if both(is_node(node), both(has.rising, needs.rising)) {
+    if all(is_node(node), has.rising, needs.rising) {
         let has_set = has.set;
         let needs_set = needs.set;
         return Reading {

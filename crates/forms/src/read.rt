@@ -1,11 +1,10 @@
 // A line read as a form.
-use crate::fields::close_of;
-use crate::fields::open_of;
-use crate::fields::read_fields;
-use crate::fields::route_of;
-use crate::fields::send_of;
-use crate::fields::show_of;
-use crate::fields::step_of;
+use crate::fields::close_at;
+use crate::fields::open_at;
+use crate::fields::route_at;
+use crate::fields::send_at;
+use crate::fields::show_at;
+use crate::fields::step_at;
 use crate::node::node_at;
 use crate::reading::refused;
 use crate::scan::starts;
@@ -33,22 +32,22 @@ fn read_plain(s: &[u8]) -> Reading
     ensures { λ r. ⌜ r ≡ asked (spec.plainForm 10 (now (s .entry))) ⌝ }
 {
     if starts(s, b"(route") {
-        return route_of(read_fields(&s[6..], 3));
+        return route_at(&s[6..]);
     }
     if starts(s, b"(open") {
-        return open_of(read_fields(&s[5..], 3));
+        return open_at(&s[5..]);
     }
     if starts(s, b"(step") {
-        return step_of(read_fields(&s[5..], 2));
+        return step_at(&s[5..]);
     }
     if starts(s, b"(send") {
-        return send_of(read_fields(&s[5..], 3));
+        return send_at(&s[5..]);
     }
     if starts(s, b"(close") {
-        return close_of(read_fields(&s[6..], 1));
+        return close_at(&s[6..]);
     }
     if starts(s, b"(show") {
-        return show_of(read_fields(&s[5..], 0));
+        return show_at(&s[5..]);
     }
     refused(Refusal::Unreadable)
 }

@@ -1,0 +1,37 @@
+-- A form is picked by the word that its line begins with. Assumes nothing.
+use mathlib.Core.Path.{_≡_, refl, _∙_}
+use mathlib.Core.Bool.{Bool, true, false, cond}
+use mathlib.Core.List.{List}
+use mathlib.Core.Option.{Option}
+use Prim.Native.Nat.{ℕ, _-_, _≤_}
+use lib.ListN.{length, take, drop}
+use Rattle.calculus.proofs.Tests.{join}
+use Rattle.forms.specs.declared.read.Reading.{Reading}
+use Rattle.forms.specs.Text.{Form}
+use Rattle.forms.specs.Read.{starts}
+use Rattle.forms.specs.Request.{asked}
+use Rattle.forms.proofs.Words.{starts-inside}
+use Rattle.forms.proofs.Parts.{rest}
+
+-- what the whole reading of a line comes to, once some words are not there
+pub record Left : Type 0 where
+  pub line : List ℕ
+  pub whole : Option Form
+  pub left : Option Form
+  pub same : whole ≡ left
+
+abbrev pub first : (List ℕ → Option Form) → List ℕ → Left
+first read l = record { line = l; whole = read l; left = read l; same = refl }
+
+-- the word is not there
+abbrev pub skip : {b t : Bool} (p : Left) (x y : Option Form) → p .left ≡ cond t x y → b ≡ t → b ≡ false → Left
+skip p x y q e n = record { line = p .line; whole = p .whole; left = y; same = p .same ∙ q ∙ rw (join e n) }
+
+-- the word, of k bytes, is there, and `read` reads what stands behind it
+pub pick : {b t : Bool} {r : Reading} (read : List ℕ → Option Form) (k : ℕ) (p : Left) (y : Option Form)
+    → p .left ≡ cond t (read (drop k (p .line))) y → b ≡ t → b ≡ true
+    → r ≡ asked (read (take (length (p .line) - k) (drop k (p .line)))) → r ≡ asked (p .whole)
+pick read k p y q e n h = h ∙ rest (λ m. asked (read m)) k (p .line) ∙ rw (p .same, q, join e n)
+
+pub inside : (w l : List ℕ) {b : Bool} → b ≡ starts w l → b ≡ true → length w ≤ length l
+inside w l e n = starts-inside w l (join e n)
