@@ -66,8 +66,7 @@ pub fn calls(s: State, text: &[u8], out: &mut [u8]) -> Answered
                 let parsed = reading.parsed;
                 let session = session_of(parsed);
                 let at = session.0 as usize - 1;
-                let part = parts[at];
-                let moved = turn(opened, network, &mut users, part, blank, parsed);
+                let moved = turn(opened, network, &mut users, parts[at], blank, parsed);
                 let answer = moved.answer;
                 let left = moved.part;
                 parts[at] = left;
