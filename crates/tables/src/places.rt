@@ -73,13 +73,16 @@ pub fn load_at(s: State, at: usize) -> Part
     requires { ⌜ at < 8 ⌝ }
     ensures { λ r. ⌜ r ≡ spec.load s (at + 1) ⌝ }
 {
-    let items = load_items(s.items, at);
-    let rows = load_rows(s.rows, at);
-    let session = s.sessions[at];
+    let all_items = s.items;
+    let part_items = load_items(all_items, at);
+    let all_rows = s.rows;
+    let part_rows = load_rows(all_rows, at);
+    let sessions = s.sessions;
+    let session = sessions[at];
     Part {
         session,
-        items,
-        rows,
+        items: part_items,
+        rows: part_rows,
     }
 }
 
@@ -87,7 +90,6 @@ pub fn store_at(s: State, at: usize, t: Part) -> State
     requires { ⌜ at < 8 ⌝ }
     ensures { λ r. ⌜ r ≡ spec.store s (at + 1) t ⌝ }
 {
-    let mut next = s;
     let all_items = s.items;
     let part_items = t.items;
     let items = store_items(all_items, at, part_items);
@@ -95,8 +97,16 @@ pub fn store_at(s: State, at: usize, t: Part) -> State
     let part_rows = t.rows;
     let rows = store_rows(all_rows, at, part_rows);
     let session = t.session;
-    next.sessions[at] = session;
-    next.items = items;
-    next.rows = rows;
-    next
+    let mut sessions = s.sessions;
+    sessions[at] = session;
+    let network = s.network;
+    let users = s.users;
+    State {
+        opened: s.opened,
+        network,
+        sessions,
+        items,
+        rows,
+        users,
+    }
 }
