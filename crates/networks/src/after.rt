@@ -1,10 +1,13 @@
 // The network that an accepted node or route call leaves.
+use calculus::answer::Answer;
 use calculus::network::Kind;
 use calculus::network::Network;
 use calculus::network::Node;
 use calculus::request::Request;
 use forms::read::Parsed;
+use forms::read::Reading;
 ghost use mathlib.Core.Path.{_≡_};
+ghost use mathlib.Core.Bool.{cond};
 ghost use Prim.Native.Nat.{_-_};
 ghost use Rattle.model.specs.Requests as spec;
 ghost use Rattle.model.specs.Turn as turns;
@@ -48,6 +51,7 @@ fn with_route(n: Network, a: u8, b: u8, hop: u8) -> Network
     next
 }
 
+// What an accepted node or route call gives is in the network.
 fn network_with(n: Network, has: [bool; 64], needs: [bool; 64], q: Request) -> Network
     ensures { λ r. ⌜ r ≡ turns.networkWith n has needs q ⌝ }
 {
@@ -70,12 +74,49 @@ fn network_with(n: Network, has: [bool; 64], needs: [bool; 64], q: Request) -> N
     }
 }
 
-// The network once an accepted node or route call has given its part; `n` where another line was read.
-pub fn network_of(n: Network, has: [bool; 64], needs: [bool; 64], p: Parsed) -> Network
+fn network_of(n: Network, has: [bool; 64], needs: [bool; 64], p: Parsed) -> Network
     ensures { λ r. ⌜ r ≡ turns.networkOf n has needs p ⌝ }
 {
     match p {
         Parsed::Asks(q) => network_with(n, has, needs, q),
         Parsed::Refused(_) => n,
     }
+}
+
+// Whether the answer is `(ok)`, which an accepted node or route call gets, and no other.
+fn is_ok(answer: Answer) -> bool
+    ensures { λ r. ⌜ r ≡ turns.isOk answer ⌝ }
+{
+    match answer {
+        Answer::Ok => true,
+        Answer::Made(_) => false,
+        Answer::MadeTwo(_, _) => false,
+        Answer::Lost(_) => false,
+        Answer::Denied => false,
+        Answer::Opened => false,
+        Answer::Delivered(_) => false,
+        Answer::Closed => false,
+        Answer::No(_) => false,
+        Answer::Assoc {
+            node: _,
+            out: _,
+            peer: _,
+            spi: _,
+            users: _,
+        } => false,
+        Answer::End => false,
+    }
+}
+
+// The network once the line that was read as `r` is answered: with what an accepted node or route call gives.
+pub fn network_after(n: Network, r: Reading, answer: Answer) -> Network
+    ensures { λ k. ⌜ k ≡ cond (turns.isOk answer) (turns.networkOf n (r .has) (r .needs) (r .parsed)) n ⌝ }
+{
+    if is_ok(answer) {
+        let has = r.has;
+        let needs = r.needs;
+        let parsed = r.parsed;
+        return network_of(n, has, needs, parsed);
+    }
+    n
 }

@@ -1,5 +1,4 @@
 // One call: a line and a lent output.
-use crate::turn::is_ok;
 use crate::turn::is_opened;
 use crate::turn::session_of;
 use crate::turn::turn;
@@ -7,8 +6,7 @@ use calculus::answer::Answer;
 use calculus::answer::Refusal;
 use calculus::state::State;
 use forms::read::read;
-use lookups::blank::blank_part;
-use networks::after::network_of;
+use networks::after::network_after;
 use reports::put_answers;
 use tables::part::load;
 use tables::part::store;
@@ -72,22 +70,17 @@ pub fn call(s: State, line: &[u8], out: &mut [u8]) -> Reply
     let before = s.network;
     let mut users = s.users;
     let part = load(s, session);
-    let blank = blank_part();
-    let moved = turn(s.opened, before, &mut users, part, blank, parsed);
+    let moved = turn(s.opened, before, &mut users, part, parsed);
     let answer = moved.answer;
     let left = moved.part;
     let written = put_answers(out, 0, &users, parsed, answer);
     let status = status_of(answer);
     let opened = is_opened(moved.opens, s.opened);
+    let network = network_after(before, reading, answer);
     let mut state = store(s, session, left);
     state.opened = opened;
+    state.network = network;
     state.users = users;
-    if is_ok(answer) {
-        let has = reading.has;
-        let needs = reading.needs;
-        let after = network_of(before, has, needs, parsed);
-        state.network = after;
-    }
     Reply {
         state,
         written,

@@ -1,6 +1,5 @@
 // The calls of a text, one on each line, answered one after the other. The sessions' parts and the shared tables are taken out of
 // the state once, and put back once: a call moves one part, and not the whole state.
-use crate::turn::is_ok;
 use crate::turn::is_opened;
 use crate::turn::session_of;
 use crate::turn::turn;
@@ -8,8 +7,7 @@ use calculus::state::State;
 use forms::line::Line;
 use forms::read::read;
 use lines::line_at;
-use lookups::blank::blank_part;
-use networks::after::network_of;
+use networks::after::network_after;
 use reports::put_answers;
 use tables::part::pack;
 use tables::part::unpack;
@@ -51,7 +49,6 @@ fn next_call(text: &[u8], from: usize, room: usize) -> Line
 pub fn calls(s: State, text: &[u8], out: &mut [u8]) -> Answered
     ensures { λ r. ⌜ Answers (now (out .exit)) r (answeredText s (now (text .entry)) (now (out .entry))) ⌝ }
 {
-    let blank = blank_part();
     let mut parts = unpack(s);
     let mut opened = s.opened;
     let mut network = s.network;
@@ -66,18 +63,14 @@ pub fn calls(s: State, text: &[u8], out: &mut [u8]) -> Answered
                 let parsed = reading.parsed;
                 let session = session_of(parsed);
                 let at = session.0 as usize - 1;
-                let moved = turn(opened, network, &mut users, parts[at], blank, parsed);
+                let part = parts[at];
+                let moved = turn(opened, network, &mut users, part, parsed);
                 let answer = moved.answer;
                 let left = moved.part;
                 parts[at] = left;
                 opened = is_opened(moved.opens, opened);
                 written = put_answers(out, written, &users, parsed, answer);
-                if is_ok(answer) {
-                    let has = reading.has;
-                    let needs = reading.needs;
-                    let after = network_of(network, has, needs, parsed);
-                    network = after;
-                }
+                network = network_after(network, reading, answer);
                 from = next;
             }
             Line::End => {

@@ -6,6 +6,7 @@ use calculus::request::Request;
 use calculus::state::Moved;
 use calculus::state::Part;
 use forms::read::Parsed;
+use lookups::blank::blank_part;
 use networks::node::node_answer;
 use networks::route::route_answer;
 use sessions::requests::close;
@@ -14,35 +15,8 @@ use sessions::requests::send;
 use sessions::requests::step;
 ghost use mathlib.Core.Path.{_≡_};
 ghost use mathlib.Core.Bool.{_||_};
-ghost use Rattle.model.specs.State as state;
+ghost use Rattle.model.specs.Requests as spec;
 ghost use Rattle.model.specs.Turn as turns;
-
-// Whether the answer is `(ok)`, which an accepted node or route call gets, and no other.
-pub fn is_ok(answer: Answer) -> bool
-    ensures { λ r. ⌜ r ≡ turns.isOk answer ⌝ }
-{
-    match answer {
-        Answer::Ok => true,
-        Answer::Made(_) => false,
-        Answer::MadeTwo(_, _) => false,
-        Answer::Lost(_) => false,
-        Answer::Denied => false,
-        Answer::Opened => false,
-        Answer::Delivered(_) => false,
-        Answer::Closed => false,
-        Answer::No(_) => false,
-        Answer::Assoc {
-            node: _,
-            out: _,
-            peer: _,
-            spi: _,
-            users: _,
-        } => false,
-        Answer::End => false,
-    }
-}
-
-// ---- a line
 
 // Whether an open was accepted, now or before.
 pub fn is_opened(opens: bool, opened: bool) -> bool
@@ -96,16 +70,16 @@ fn staying(t: Part, answer: Answer) -> Moved
     }
 }
 
-// What a request does to the part `t` and to the users, and its answer. `blank` is made once for many calls.
-fn requested(
-    opened: bool,
-    n: Network,
-    users: &mut [u16; 2048],
-    t: Part,
-    blank: Part,
-    q: Request,
-) -> Moved
-    requires { ⌜ blank ≡ state.blankPart ⌝ }
+// A close, which leaves blank places.
+fn closed(users: &mut [u16; 2048], t: Part) -> Moved
+    ensures { λ r. ⌜ turns.Moves (now (users .entry)) t (spec.closeMove t) (now (users .exit)) r ⌝ }
+{
+    let blank = blank_part();
+    close(users, t, blank)
+}
+
+// What a request does to the part `t` and to the users, and its answer.
+fn requested(opened: bool, n: Network, users: &mut [u16; 2048], t: Part, q: Request) -> Moved
     ensures { λ r. ⌜ (r ≡ turns.requestedOf opened n (now (users .entry)) t q) × (now (users .exit) ≡ turns.usersWith n (now (users .entry)) t q) ⌝ }
 {
     match q {
@@ -128,25 +102,17 @@ fn requested(
         } => open(n, t, client, server),
         Request::Step(_, item) => step(n, users, t, item),
         Request::Send(_, sender, tag) => send(t, sender, tag),
-        Request::Close(_) => close(users, t, blank),
+        Request::Close(_) => closed(users, t),
         Request::Show => staying(t, Answer::End),
     }
 }
 
 // What a line does to the part `t` of its session and to the users, and its answer.
-pub fn turn(
-    opened: bool,
-    n: Network,
-    users: &mut [u16; 2048],
-    t: Part,
-    blank: Part,
-    p: Parsed,
-) -> Moved
-    requires { ⌜ blank ≡ state.blankPart ⌝ }
+pub fn turn(opened: bool, n: Network, users: &mut [u16; 2048], t: Part, p: Parsed) -> Moved
     ensures { λ r. ⌜ (r ≡ turns.turnOf opened n (now (users .entry)) t p) × (now (users .exit) ≡ turns.usersOf n (now (users .entry)) t p) ⌝ }
 {
     match p {
-        Parsed::Asks(q) => requested(opened, n, users, t, blank, q),
+        Parsed::Asks(q) => requested(opened, n, users, t, q),
         Parsed::Refused(r) => staying(t, Answer::No(r)),
     }
 }

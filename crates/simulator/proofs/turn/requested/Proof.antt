@@ -1,7 +1,6 @@
 -- `turn::requested` meets its contract, by the request's variants. Assumes nothing.
 use mathlib.Core.Path.{refl}
 use borrow.Author.Needs.{needs}
-use Rattle.model.specs.Requests.{closing, closeMove}
 use Rattle.model.specs.Turn.{requestedOf, usersWith}
 use Rattle.simulator.proofs.turn.requested.Statement.{statement}
 use Rattle.simulator.proofs.turn.requested.Tie as tie
@@ -27,10 +26,8 @@ unfolding requestedOf usersWith
 returns-5 c = rw (c .before .before .q5 .given .1) (c .send .ensures, refl)
 
 returns-6 : tie.Need-returns-6
-unfolding requestedOf usersWith closeMove closing
-returns-6 c =
-    let e = c .before .before .before .before .pre in
-    rw (c .before .before .enum-told .given .1) (rw e at (c .close .ensures .part), rw e at (c .close .ensures .shared))
+unfolding requestedOf usersWith
+returns-6 c = rw (c .before .before .enum-told .given .1) (c .closed .ensures .part, c .closed .ensures .shared)
 
 returns-7 : tie.Need-returns-7
 unfolding requestedOf usersWith
