@@ -1,7 +1,4 @@
 // One call: a line and a lent output.
-use crate::turn::is_opened;
-use crate::turn::session_of;
-use crate::turn::turn;
 use calculus::answer::Answer;
 use calculus::answer::Refusal;
 use calculus::state::State;
@@ -10,6 +7,9 @@ use networks::after::network_after;
 use reports::put_answers;
 use tables::part::load;
 use tables::part::store;
+use turns::is_opened;
+use turns::session_of;
+use turns::turn;
 ghost use mathlib.Core.Path.{_≡_};
 ghost use lib.ListN.{length};
 ghost use Rattle.model.specs.Calls as calls;

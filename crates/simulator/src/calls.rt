@@ -1,8 +1,5 @@
 // The calls of a text, one on each line, answered one after the other. The sessions' parts and the shared tables are taken out of
 // the state once, and put back once: a call moves one part, and not the whole state.
-use crate::turn::is_opened;
-use crate::turn::session_of;
-use crate::turn::turn;
 use calculus::state::State;
 use forms::line::Line;
 use forms::read::read;
@@ -11,6 +8,9 @@ use networks::after::network_after;
 use reports::put_answers;
 use tables::part::pack;
 use tables::part::unpack;
+use turns::is_opened;
+use turns::session_of;
+use turns::turn;
 ghost use mathlib.Core.Path.{_≡_};
 ghost use Rattle.model.specs.Batch.{isLast, nextCall, answeredText};
 ghost use Rattle.simulator.specs.Batch.{Answers};

@@ -1,4 +1,3 @@
 // The simulator: a call, and the calls of a text.
 pub mod call;
 pub mod calls;
-mod turn;

@@ -1,7 +1,7 @@
--- `turn::session_of` meets its contract. Assumes nothing.
+-- `session_of` meets its contract. Assumes nothing.
 use borrow.Author.Needs.{needs}
-use Rattle.simulator.proofs.turn.session_of.Statement.{statement}
-use Rattle.simulator.proofs.turn.session_of.Tie as tie
+use Rattle.turns.proofs.session_of.Statement.{statement}
+use Rattle.turns.proofs.session_of.Tie as tie
 
 returns : tie.Need-returns
 returns c = simp (c .session-in .ensures, c .before .before .p .given .1)

@@ -1,7 +1,7 @@
--- `turn::session_in` meets its contract, by the request's variants. Assumes nothing.
+-- `session_in` meets its contract, by the request's variants. Assumes nothing.
 use borrow.Author.Needs.{needs}
-use Rattle.simulator.proofs.turn.session_in.Statement.{statement}
-use Rattle.simulator.proofs.turn.session_in.Tie as tie
+use Rattle.turns.proofs.session_in.Statement.{statement}
+use Rattle.turns.proofs.session_in.Tie as tie
 
 returns : tie.Need-returns
 returns c = simp (c .enum-told .given .1)

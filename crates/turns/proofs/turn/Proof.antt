@@ -1,8 +1,8 @@
--- `turn::turn` meets its contract. Assumes nothing.
+-- `turn` meets its contract. Assumes nothing.
 use mathlib.Core.Path.{refl}
 use borrow.Author.Needs.{needs}
-use Rattle.simulator.proofs.turn.turn.Statement.{statement}
-use Rattle.simulator.proofs.turn.turn.Tie as tie
+use Rattle.turns.proofs.turn.Statement.{statement}
+use Rattle.turns.proofs.turn.Tie as tie
 
 returns : tie.Need-returns
 returns c = rw (c .before .before .before .p .given .1) (c .requested .ensures)

@@ -1,9 +1,9 @@
--- `turn::requested` meets its contract, by the request's variants. Assumes nothing.
+-- `requested` meets its contract, by the request's variants. Assumes nothing.
 use mathlib.Core.Path.{refl}
 use borrow.Author.Needs.{needs}
 use Rattle.model.specs.Turn.{requestedOf, usersWith}
-use Rattle.simulator.proofs.turn.requested.Statement.{statement}
-use Rattle.simulator.proofs.turn.requested.Tie as tie
+use Rattle.turns.proofs.requested.Statement.{statement}
+use Rattle.turns.proofs.requested.Tie as tie
 
 returns : tie.Need-returns
 unfolding requestedOf usersWith

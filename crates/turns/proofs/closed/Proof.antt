@@ -1,8 +1,8 @@
--- `turn::closed` meets its contract. Assumes nothing.
+-- `closed` meets its contract. Assumes nothing.
 use borrow.Author.Needs.{needs}
 use Rattle.model.specs.Requests.{closing, closeMove}
-use Rattle.simulator.proofs.turn.closed.Statement.{statement}
-use Rattle.simulator.proofs.turn.closed.Tie as tie
+use Rattle.turns.proofs.closed.Statement.{statement}
+use Rattle.turns.proofs.closed.Tie as tie
 
 returns : tie.Need-returns
 unfolding closeMove closing
