@@ -51,7 +51,7 @@ fn with_route(n: Network, a: u8, b: u8, hop: u8) -> Network
     next
 }
 
-// What an accepted node or route call gives is in the network.
+// The network with what a node or route call gives.
 fn network_with(n: Network, has: [bool; 64], needs: [bool; 64], q: Request) -> Network
     ensures { λ r. ⌜ r ≡ turns.networkWith n has needs q ⌝ }
 {
