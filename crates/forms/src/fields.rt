@@ -59,24 +59,20 @@ pub fn route_at(s: &[u8]) -> Reading
     ensures { λ r. ⌜ r ≡ asked (spec.formWith spec.routeWith (spec.fields 10 3 (now (s .entry)))) ⌝ }
 {
     let f = read_fields(s, 3);
-    let ok = f.ok;
-    if ok {
-        let values = f.values;
-        let at = values[0];
-        let destination = values[1];
-        let next = values[2];
+    if f.ok {
+        let at = f.values[0];
+        let destination = f.values[1];
+        let next = f.values[2];
         if all(is_node(at), is_node(destination), is_node(next)) {
-            asks(Request::Route {
+            return asks(Request::Route {
                 at: at as u8,
                 destination: destination as u8,
                 next: next as u8,
-            })
-        } else {
-            refused(Refusal::Range)
+            });
         }
-    } else {
-        refused(Refusal::Unreadable)
+        return refused(Refusal::Range);
     }
+    refused(Refusal::Unreadable)
 }
 
 // What stands behind `(open` asks.
@@ -84,24 +80,20 @@ pub fn open_at(s: &[u8]) -> Reading
     ensures { λ r. ⌜ r ≡ asked (spec.formWith spec.openWith (spec.fields 10 3 (now (s .entry)))) ⌝ }
 {
     let f = read_fields(s, 3);
-    let ok = f.ok;
-    if ok {
-        let values = f.values;
-        let session = values[0];
-        let client = values[1];
-        let server = values[2];
+    if f.ok {
+        let session = f.values[0];
+        let client = f.values[1];
+        let server = f.values[2];
         if all(is_session(session), is_node(client), is_node(server)) {
-            asks(Request::Open {
+            return asks(Request::Open {
                 session: SessionNumber(session as u8),
                 client: client as u8,
                 server: server as u8,
-            })
-        } else {
-            refused(Refusal::Range)
+            });
         }
-    } else {
-        refused(Refusal::Unreadable)
+        return refused(Refusal::Range);
     }
+    refused(Refusal::Unreadable)
 }
 
 // What stands behind `(step` asks.
@@ -109,19 +101,15 @@ pub fn step_at(s: &[u8]) -> Reading
     ensures { λ r. ⌜ r ≡ asked (spec.formWith spec.stepWith (spec.fields 10 2 (now (s .entry)))) ⌝ }
 {
     let f = read_fields(s, 2);
-    let ok = f.ok;
-    if ok {
-        let values = f.values;
-        let session = values[0];
-        let item = values[1];
+    if f.ok {
+        let session = f.values[0];
+        let item = f.values[1];
         if both(is_session(session), is_item(item)) {
-            asks(Request::Step(SessionNumber(session as u8), ItemNumber(item as u32)))
-        } else {
-            refused(Refusal::Range)
+            return asks(Request::Step(SessionNumber(session as u8), ItemNumber(item as u32)));
         }
-    } else {
-        refused(Refusal::Unreadable)
+        return refused(Refusal::Range);
     }
+    refused(Refusal::Unreadable)
 }
 
 // What stands behind `(send` asks.
@@ -129,24 +117,20 @@ pub fn send_at(s: &[u8]) -> Reading
     ensures { λ r. ⌜ r ≡ asked (spec.formWith spec.sendWith (spec.fields 10 3 (now (s .entry)))) ⌝ }
 {
     let f = read_fields(s, 3);
-    let ok = f.ok;
-    if ok {
-        let values = f.values;
-        let session = values[0];
-        let which = values[1];
-        let tag = values[2];
+    if f.ok {
+        let session = f.values[0];
+        let which = f.values[1];
+        let tag = f.values[2];
         if all(is_session(session), within(which, 0, 1), is_tag(tag)) {
-            asks(Request::Send(
+            return asks(Request::Send(
                 SessionNumber(session as u8),
                 Sender::numbered(which),
                 tag as u32,
-            ))
-        } else {
-            refused(Refusal::Range)
+            ));
         }
-    } else {
-        refused(Refusal::Unreadable)
+        return refused(Refusal::Range);
     }
+    refused(Refusal::Unreadable)
 }
 
 // What stands behind `(close` asks.
@@ -154,18 +138,14 @@ pub fn close_at(s: &[u8]) -> Reading
     ensures { λ r. ⌜ r ≡ asked (spec.formWith spec.closeWith (spec.fields 10 1 (now (s .entry)))) ⌝ }
 {
     let f = read_fields(s, 1);
-    let ok = f.ok;
-    if ok {
-        let values = f.values;
-        let session = values[0];
+    if f.ok {
+        let session = f.values[0];
         if is_session(session) {
-            asks(Request::Close(SessionNumber(session as u8)))
-        } else {
-            refused(Refusal::Range)
+            return asks(Request::Close(SessionNumber(session as u8)));
         }
-    } else {
-        refused(Refusal::Unreadable)
+        return refused(Refusal::Range);
     }
+    refused(Refusal::Unreadable)
 }
 
 // What stands behind `(show` asks.
@@ -173,10 +153,8 @@ pub fn show_at(s: &[u8]) -> Reading
     ensures { λ r. ⌜ r ≡ asked (spec.formWith spec.showWith (spec.fields 10 0 (now (s .entry)))) ⌝ }
 {
     let f = read_fields(s, 0);
-    let ok = f.ok;
-    if ok {
-        asks(Request::Show)
-    } else {
-        refused(Refusal::Unreadable)
+    if f.ok {
+        return asks(Request::Show);
     }
+    refused(Refusal::Unreadable)
 }

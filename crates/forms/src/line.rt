@@ -32,14 +32,12 @@ pub fn next_line(input: &[u8], from: usize) -> Line
     if from < input.len() {
         let stop = line_end(input, from);
         if stop < input.len() {
-            Line::Found {
+            return Line::Found {
                 stop,
                 next: stop + 1,
-            }
-        } else {
-            Line::Found { stop, next: stop }
+            };
         }
-    } else {
-        Line::End
+        return Line::Found { stop, next: stop };
     }
+    Line::End
 }

@@ -29,16 +29,15 @@ fn read_part(s: &[u8], at: usize) -> Part
     }
     if byte_at(s, at, b' ') {
         let from = at + 1;
-        match read_number(&s[from..]) {
+        return match read_number(&s[from..]) {
             Number::Found { value, used } => Part::Number {
                 value,
                 next: from + used,
             },
             Number::Missing => Part::Broken,
-        }
-    } else {
-        Part::Broken
+        };
     }
+    Part::Broken
 }
 
 // The list at the front of `s`, of at most as many numbers as `into` has places; they are stored there.

@@ -149,19 +149,16 @@ fn has_at(s: &[u8], node: u64, kind: Kind) -> Reading
     ensures { λ r. ⌜ r ≡ asked (spec.hasAt 10 200 node kind (now (s .entry))) ⌝ }
 {
     let has = read_credentials(s);
-    let ok = has.ok;
-    if ok {
+    if has.ok {
         let used = has.used;
         let rest = &s[used..];
         if starts(rest, b" (needs") {
             let tally = has.tally;
-            needs_at(&rest[7..], node, kind, tally)
-        } else {
-            refused(Refusal::Unreadable)
+            return needs_at(&rest[7..], node, kind, tally);
         }
-    } else {
-        refused(Refusal::Unreadable)
+        return refused(Refusal::Unreadable);
     }
+    refused(Refusal::Unreadable)
 }
 
 // From behind the node's number, to the end.

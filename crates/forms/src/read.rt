@@ -57,10 +57,9 @@ fn read_form(s: &[u8]) -> Reading
     ensures { λ r. ⌜ r ≡ asked (spec.formOf 10 200 (now (s .entry))) ⌝ }
 {
     if starts(s, b"(node ") {
-        node_at(&s[6..])
-    } else {
-        read_plain(s)
+        return node_at(&s[6..]);
     }
+    read_plain(s)
 }
 
 // What `line`, the bytes before its newline, asks; refusal 1 where it is no form, 2 where a number is out of range.
@@ -68,8 +67,7 @@ pub fn read(line: &[u8]) -> Reading
     ensures { λ r. ⌜ r ≡ asked (spec.read (now (line .entry))) ⌝ }
 {
     if line.len() <= 400 {
-        read_form(line)
-    } else {
-        refused(Refusal::Unreadable)
+        return read_form(line);
     }
+    refused(Refusal::Unreadable)
 }

@@ -2,32 +2,42 @@
 use borrow.Author.Needs.{needs}
 use native.Mathlib.Omega.{arith}
 use mathlib.Core.Path.{_∙_}
+use mathlib.Core.List.{List}
+use Prim.Native.Nat.{ℕ, _≤_}
+use lib.ListN.{getD}
 use Rattle.forms.specs.Read.{openWith}
 use Rattle.forms.proofs.Held.{all-flags, all-within, form-read, form-broken}
 use Rattle.forms.proofs.fields.open_at.Statement.{statement}
 use Rattle.forms.proofs.fields.open_at.Tie as tie
 
-cast-t22 : tie.Need-cast-t22
-cast-t22 c = omega (arith, all-within (c .before .before .before .before .before .before .before .read-fields .result .values) 1 8 1 32 (c .before .before .before .before .is-session .ensures) (c .before .before .before .is-node .ensures) 1 32 (c .before .before .is-node2 .ensures) (c .before .all .ensures) (c .if2 .taken))
+abbrev values : tie.Then2 → List ℕ
+values c = c .before .before .before .before .before .before .before .before .before .read-fields .result .values
 
-cast-t24 : tie.Need-cast-t24
-cast-t24 c = omega (arith, all-within (c .before .before .before .before .before .before .before .read-fields .result .values) 1 8 1 32 (c .before .before .before .before .is-session .ensures) (c .before .before .before .is-node .ensures) 1 32 (c .before .before .is-node2 .ensures) (c .before .all .ensures) (c .if2 .taken))
-
-cast-t25 : tie.Need-cast-t25
-cast-t25 c = omega (arith, all-within (c .before .before .before .before .before .before .before .read-fields .result .values) 1 8 1 32 (c .before .before .before .before .is-session .ensures) (c .before .before .before .is-node .ensures) 1 32 (c .before .before .is-node2 .ensures) (c .before .all .ensures) (c .if2 .taken))
+in-range : (c : tie.Then2) → (getD (values c) 0 0 ≤ 8) × (getD (values c) 1 0 ≤ 32) × (getD (values c) 2 0 ≤ 32)
+in-range c =
+    let c₄ = c .before .before .before .before in
+    all-within (values c) 1 8 1 32 (c₄ .is-session .ensures) (c .before .before .before .is-node .ensures) 1 32 (c .before .before .is-node2 .ensures) (c .before .all .ensures) (c .if2 .taken)
 
 returns : tie.Need-returns
 returns c =
-    form-read openWith 3 (c .before .before .before .before .before .before .before .before .read-fields .result) (c .before .before .before .before .before .before .before .before .read-fields .ensures) (c .before .before .before .before .before .before .before .if1 .taken)
-    (c .asks .ensures ∙ rw (all-flags (c .before .before .before .before .before .is-session .ensures) (c .before .before .before .before .is-node .ensures) (c .before .before .before .is-node2 .ensures) (c .before .before .all .ensures) (c .before .if2 .taken)))
+    let c₂ = c .before .before in
+    let c₅ = c₂ .before .before .before in
+    let c₁₀ = c₅ .before .before .before .before .before in
+    form-read openWith 3 (c₁₀ .read-fields .result) (c₁₀ .read-fields .ensures) (c₅ .before .before .before .before .if1 .taken)
+    (c .asks .ensures ∙ rw (all-flags (c₅ .is-session .ensures) (c₂ .before .before .is-node .ensures) (c₂ .before .is-node2 .ensures) (c₂ .all .ensures) (c .before .if2 .taken)))
 
 returns-2 : tie.Need-returns-2
 returns-2 c =
-    form-read openWith 3 (c .before .before .before .before .before .before .before .before .read-fields .result) (c .before .before .before .before .before .before .before .before .read-fields .ensures) (c .before .before .before .before .before .before .before .if1 .taken)
-    (c .refused .ensures ∙ rw (all-flags (c .before .before .before .before .before .is-session .ensures) (c .before .before .before .before .is-node .ensures) (c .before .before .before .is-node2 .ensures) (c .before .before .all .ensures) (c .before .if2 .left)))
+    let c₂ = c .before .before in
+    let c₅ = c₂ .before .before .before in
+    let c₁₀ = c₅ .before .before .before .before .before in
+    form-read openWith 3 (c₁₀ .read-fields .result) (c₁₀ .read-fields .ensures) (c₅ .before .before .before .before .if1 .taken)
+    (c .refused .ensures ∙ rw (all-flags (c₅ .is-session .ensures) (c₂ .before .before .is-node .ensures) (c₂ .before .is-node2 .ensures) (c₂ .all .ensures) (c .before .if2 .left)))
 
 returns-3 : tie.Need-returns-3
-returns-3 c = form-broken openWith 3 (c .before .before .read-fields .result) (c .before .before .read-fields .ensures) (c .before .if1 .left) (c .refused2 .ensures)
+returns-3 c =
+    let c₂ = c .before .before in
+    form-broken openWith 3 (c₂ .read-fields .result) (c₂ .read-fields .ensures) (c .before .if1 .left) (c .refused2 .ensures)
 
 pub open-at-spec : {M : Type 1} → statement M
 open-at-spec =
@@ -41,12 +51,12 @@ open-at-spec =
     (λ c κs. search needs)
     (λ c κs. search needs)
     (λ c κs. search needs)
-    cast-t22
-    cast-t24
-    cast-t25
-    (λ c κs. search needs)
-    (λ c κs. search needs)
+    (λ c. omega (arith, in-range c))
+    (λ c. omega (arith, in-range c))
+    (λ c. omega (arith, in-range c))
     (λ c κs. search needs)
     returns
+    (λ c κs. search needs)
     returns-2
+    (λ c κs. search needs)
     returns-3)

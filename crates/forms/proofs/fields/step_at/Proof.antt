@@ -2,29 +2,39 @@
 use borrow.Author.Needs.{needs}
 use native.Mathlib.Omega.{arith}
 use mathlib.Core.Path.{_∙_}
+use mathlib.Core.List.{List}
+use Prim.Native.Nat.{ℕ, _≤_}
+use lib.ListN.{getD}
 use Rattle.forms.specs.Read.{stepWith}
 use Rattle.forms.proofs.Held.{both-flags, both-within, form-read, form-broken}
 use Rattle.forms.proofs.fields.step_at.Statement.{statement}
 use Rattle.forms.proofs.fields.step_at.Tie as tie
 
-cast-t18 : tie.Need-cast-t18
-cast-t18 c = omega (arith, both-within (c .before .before .before .before .before .before .read-fields .result .values) 1 8 1 1000000 (c .before .before .before .is-session .ensures) (c .before .before .is-item .ensures) (c .before .both .ensures) (c .if2 .taken))
+abbrev values : tie.Then2 → List ℕ
+values c = c .before .before .before .before .before .before .before .read-fields .result .values
 
-cast-t20 : tie.Need-cast-t20
-cast-t20 c = omega (arith, both-within (c .before .before .before .before .before .before .read-fields .result .values) 1 8 1 1000000 (c .before .before .before .is-session .ensures) (c .before .before .is-item .ensures) (c .before .both .ensures) (c .if2 .taken))
+in-range : (c : tie.Then2) → (getD (values c) 0 0 ≤ 8) × (getD (values c) 1 0 ≤ 1000000)
+in-range c =
+    both-within (values c) 1 8 1 1000000 (c .before .before .before .is-session .ensures) (c .before .before .is-item .ensures) (c .before .both .ensures) (c .if2 .taken)
 
 returns : tie.Need-returns
 returns c =
-    form-read stepWith 2 (c .before .before .before .before .before .before .before .read-fields .result) (c .before .before .before .before .before .before .before .read-fields .ensures) (c .before .before .before .before .before .before .if1 .taken)
-    (c .asks .ensures ∙ rw (both-flags (c .before .before .before .before .is-session .ensures) (c .before .before .before .is-item .ensures) (c .before .before .both .ensures) (c .before .if2 .taken)))
+    let c₄ = c .before .before .before .before in
+    let c₈ = c₄ .before .before .before .before in
+    form-read stepWith 2 (c₈ .read-fields .result) (c₈ .read-fields .ensures) (c₄ .before .before .before .if1 .taken)
+    (c .asks .ensures ∙ rw (both-flags (c₄ .is-session .ensures) (c .before .before .before .is-item .ensures) (c .before .before .both .ensures) (c .before .if2 .taken)))
 
 returns-2 : tie.Need-returns-2
 returns-2 c =
-    form-read stepWith 2 (c .before .before .before .before .before .before .before .read-fields .result) (c .before .before .before .before .before .before .before .read-fields .ensures) (c .before .before .before .before .before .before .if1 .taken)
-    (c .refused .ensures ∙ rw (both-flags (c .before .before .before .before .is-session .ensures) (c .before .before .before .is-item .ensures) (c .before .before .both .ensures) (c .before .if2 .left)))
+    let c₄ = c .before .before .before .before in
+    let c₈ = c₄ .before .before .before .before in
+    form-read stepWith 2 (c₈ .read-fields .result) (c₈ .read-fields .ensures) (c₄ .before .before .before .if1 .taken)
+    (c .refused .ensures ∙ rw (both-flags (c₄ .is-session .ensures) (c .before .before .before .is-item .ensures) (c .before .before .both .ensures) (c .before .if2 .left)))
 
 returns-3 : tie.Need-returns-3
-returns-3 c = form-broken stepWith 2 (c .before .before .read-fields .result) (c .before .before .read-fields .ensures) (c .before .if1 .left) (c .refused2 .ensures)
+returns-3 c =
+    let c₂ = c .before .before in
+    form-broken stepWith 2 (c₂ .read-fields .result) (c₂ .read-fields .ensures) (c .before .if1 .left) (c .refused2 .ensures)
 
 pub step-at-spec : {M : Type 1} → statement M
 step-at-spec =
@@ -36,11 +46,11 @@ step-at-spec =
     (λ c κs. search needs)
     (λ c κs. search needs)
     (λ c κs. search needs)
-    cast-t18
-    cast-t20
-    (λ c κs. search needs)
-    (λ c κs. search needs)
+    (λ c. omega (arith, in-range c))
+    (λ c. omega (arith, in-range c))
     (λ c κs. search needs)
     returns
+    (λ c κs. search needs)
     returns-2
+    (λ c κs. search needs)
     returns-3)

@@ -36,8 +36,8 @@ part-read-number-start c =
     let c₅ = c .before .before .before .before .before in
     omega (arith, byte-inside 32 (c₅ .args .s .now) (c₅ .args .at) (join (c .before .byte-at2 .ensures) (c .if2 .taken)))
 
-add-t16 : tie.Need-add-t16
-add-t16 c =
+add-t15 : tie.Need-add-t15
+add-t15 c =
     let c₃ = c .before .before .before in
     let c₅ = c₃ .before .before in
     let c₆ = c₅ .before in
@@ -83,7 +83,7 @@ read-part-spec =
     (λ c. search needs)
     (λ c κs. search needs)
     (λ c. search needs)
-    add-t16
+    add-t15
     (λ c. search needs)
     returns-2
     returns-3

@@ -15,4 +15,4 @@ unfolding spec.read
 returns-2 c = c .refused .ensures ∙ rw (lt-leb _ 400 (c .before .if1 .left))
 
 pub read-spec : {M : Type 1} → statement M
-read-spec = tie.close (tie.spec (λ c κs. search needs) (λ c κs. search needs) returns returns-2)
+read-spec = tie.close (tie.spec (λ c κs. search needs) returns (λ c κs. search needs) returns-2)

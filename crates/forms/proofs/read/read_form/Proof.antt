@@ -31,6 +31,6 @@ read-form-spec =
     sub-node-at
     (λ c. search needs)
     (λ c κs. search needs)
-    (λ c κs. search needs)
     returns
+    (λ c κs. search needs)
     returns-2)
