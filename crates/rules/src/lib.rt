@@ -1,7 +1,2 @@
-// The rule of each item, proved equal to the model's.
-mod enter;
-mod establish;
-mod out;
+// The rule of each item, with what it looks up, proved equal to the model's.
 pub mod rule;
-mod up;
-mod wire;

@@ -1,12 +1,4 @@
 // The rule of an item, with what it looks up.
-use crate::enter::enter;
-use crate::establish::ack;
-use crate::establish::auth;
-use crate::establish::est;
-use crate::establish::grant;
-use crate::out::out;
-use crate::up::up;
-use crate::wire::wire;
 use calculus::answer::Loss;
 use calculus::effect::Effect;
 use calculus::network::Network;
@@ -18,6 +10,14 @@ use calculus::session::Row;
 use calculus::session::Session;
 use calculus::state::Part;
 use effects::effect::lost;
+use establishments::ack;
+use establishments::auth;
+use establishments::est;
+use establishments::grant;
+use forwarding::enter::enter;
+use forwarding::out::out;
+use forwarding::up::up;
+use forwarding::wire::wire;
 use items::packet::target;
 use lookups::network::has_all_needed;
 use lookups::network::is_gateway;
