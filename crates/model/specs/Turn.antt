@@ -1,6 +1,6 @@
 -- What a line does, told by its session's part and by the tables that all sessions share: the code holds these apart. That this is
--- what `Calls` says of the whole state is proved (`turn-whole`). Private functions of `simulator` cite it, and those of `sessions`
--- the moves. Assumes nothing.
+-- what `Calls` says of the whole state is proved (`turn-whole`). Cited by `turns`, `networks`, `tables` and `reports`, and the moves by
+-- `sessions` and `effects`. Assumes nothing.
 use Prim.Native.Nat.{ℕ, _+_, _<_}
 use mathlib.Core.Path.{_≡_}
 use mathlib.Core.Bool.{Bool, true, false, cond, _||_}
