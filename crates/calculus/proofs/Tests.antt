@@ -1,6 +1,6 @@
 -- Tests that compute, and what they say. For every crate. Assumes nothing.
 use mathlib.Core.Path.{_≡_, refl, sym, _∙_}
-use mathlib.Core.Bool.{Bool, true, false, _&&_}
+use mathlib.Core.Bool.{Bool, true, false, cond, _&&_}
 use Prim.Native.Nat.{ℕ, _≤_}
 use native.Mathlib.Omega.{arith}
 use lib.Dec.{leb}
@@ -15,6 +15,11 @@ pub data Way (b : Bool) : Type 0 where
 pub way : (b : Bool) → Way b
 way true = is refl
 way false = isnt refl
+
+-- what holds of both sides of a choice holds of the choice
+pub either : {A : Type 0} (P : A → Type 0) (b : Bool) {x y : A} → (b ≡ true → P x) → (b ≡ false → P y) → P (cond b x y)
+either P true f g = f refl
+either P false f g = g refl
 
 -- what a call ensures of its result, joined with what is known of that result
 pub join : {A : Type 0} {a b t : A} → a ≡ b → a ≡ t → b ≡ t

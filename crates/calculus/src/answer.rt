@@ -1,4 +1,4 @@
-// What a call answers: document 01's answers, its refusals and its losses.
+// What a call answers: its answer with its refusal or loss, or the lines of show's report.
 use crate::number::ItemNumber;
 use crate::number::Spi;
 ghost use mathlib.Core.Path.{_≡_};
@@ -76,7 +76,7 @@ impl Loss {
     }
 }
 
-// What a call answers. An association's line has its direction, out or in, and its users.
+// What a call answers, unless it asks for a report.
 pub enum Answer {
     Ok,
     Made(ItemNumber),
@@ -87,12 +87,13 @@ pub enum Answer {
     Delivered(u32),
     Closed,
     No(Refusal),
-    Assoc {
-        node: u8,
-        out: bool,
-        peer: u8,
-        spi: Spi,
-        users: u16,
-    },
-    End,
+}
+
+// A standing association as show reports it: its direction is out, or in.
+pub struct Association {
+    pub node: u8,
+    pub out: bool,
+    pub peer: u8,
+    pub spi: Spi,
+    pub users: u16,
 }

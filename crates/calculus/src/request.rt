@@ -41,4 +41,12 @@ pub enum Request {
     Send(SessionNumber, Sender, u32),
     Close(SessionNumber),
     Show,
+    Net,
+}
+
+// Whose lines answer a request: its answer's, or a report's.
+pub enum Report {
+    Answer,
+    Associations,
+    Network,
 }

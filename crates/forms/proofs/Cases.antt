@@ -5,7 +5,7 @@ use Prim.Native.String.{String}
 use lib.ListN.{replicate}
 use mathlib.Core.Bool.{false}
 use mathlib.Core.Option.{none, some}
-use Rattle.calculus.specs.declared.answer.Answer.the-variants.{Ok, Made, MadeTwo, Lost, Delivered, No, Assoc, End}
+use Rattle.calculus.specs.declared.answer.Answer.the-variants.{Ok, Made, MadeTwo, Lost, Delivered, No}
 use Rattle.calculus.specs.declared.answer.Loss.the-variants.{HopLimit}
 use Rattle.calculus.specs.declared.answer.Refusal.the-variants.{Waiting, Range}
 use Rattle.calculus.specs.declared.network.Kind.the-variants.{Host, Gateway}
@@ -14,10 +14,10 @@ use Rattle.calculus.specs.Number.{spi}
 use Rattle.forms.specs.declared.line.Line.the-variants as line
 use Rattle.forms.specs.declared.read.Parsed.the-variants.{Asks, Refused}
 use Rattle.forms.specs.Bytes.{bytes, decimal, digitsOf}
-use Rattle.forms.specs.Text.{Form, node, route, «open», step, send, close, show, listText, text}
+use Rattle.forms.specs.Text.{Form, node, route, «open», step, send, close, show, net, listText, text}
 use Rattle.forms.specs.Read.{starts, scan, number, list, fields, hasAt, kindAt, nodeAt, plainForm, formOf, read}
 use Rattle.forms.specs.Request.{asked}
-use Rattle.forms.specs.Answer.{answerText}
+use Rattle.forms.specs.Answer.{answerText, associationLine}
 use Rattle.forms.specs.Line.{lineLength, nextLine, lines}
 
 -- ---- lines that are forms, and lines that are none
@@ -25,12 +25,12 @@ use Rattle.forms.specs.Line.{lineLength, nextLine, lines}
 abbrev texts : List String
 texts =
     "(node 1 host (has 0 5) (needs))" ∷ "(node 2 gate (has) (needs 5 0))" ∷ "(route 1 4 2)" ∷ "(open 1 1 4)" ∷ "(step 1 3)"
-    ∷ "(send 1 0 77)" ∷ "(close 9999999999)" ∷ "(show)" ∷ []
+    ∷ "(send 1 0 77)" ∷ "(close 9999999999)" ∷ "(show)" ∷ "(net)" ∷ []
 
 abbrev forms : List Form
 forms =
     node 1 Host (0 ∷ 5 ∷ []) [] ∷ node 2 Gateway [] (5 ∷ 0 ∷ []) ∷ route 1 4 2 ∷ «open» 1 1 4 ∷ step 1 3
-    ∷ send 1 0 77 ∷ close 9999999999 ∷ show ∷ []
+    ∷ send 1 0 77 ∷ close 9999999999 ∷ show ∷ net ∷ []
 
 forms-written : map text forms ≡ map bytes texts
 unfolding text listText decimal digitsOf
@@ -40,8 +40,8 @@ forms-read : map (λ s. read (bytes s)) texts ≡ map some forms
 unfolding read formOf plainForm nodeAt kindAt hasAt fields list number scan starts
 forms-read = refl
 
-near-misses : map (λ s. read (bytes s)) ("" ∷ "(close 01)" ∷ "(close 10000000000)" ∷ "(step 1  3)" ∷ "(step 1 3) " ∷ "(step 1)" ∷ "(show 1)" ∷ "(node 1 host (has ) (needs))" ∷ [])
-    ≡ replicate 8 none
+near-misses : map (λ s. read (bytes s)) ("" ∷ "(close 01)" ∷ "(close 10000000000)" ∷ "(step 1  3)" ∷ "(step 1 3) " ∷ "(step 1)" ∷ "(show 1)" ∷ "(net )" ∷ "(node 1 host (has ) (needs))" ∷ [])
+    ≡ replicate 9 none
 unfolding read formOf plainForm nodeAt kindAt hasAt fields list number scan starts
 near-misses = refl
 
@@ -56,10 +56,14 @@ out-of-range = refl
 
 -- ---- answers
 
-answers : map answerText (Ok ∷ Made (record { 0 = 3 }) ∷ MadeTwo (record { 0 = 3 }) (record { 0 = 4 }) ∷ Lost HopLimit ∷ Delivered 77 ∷ No Waiting ∷ Assoc 1 false 2 (spi 1 2) 1 ∷ End ∷ [])
-    ≡ map bytes ("(ok)\n" ∷ "(made 3)\n" ∷ "(made 3 4)\n" ∷ "(lost 2)\n" ∷ "(delivered 77)\n" ∷ "(no 12)\n" ∷ "(assoc 1 in 2 257 1)\n" ∷ "(end)\n" ∷ [])
+answers : map answerText (Ok ∷ Made (record { 0 = 3 }) ∷ MadeTwo (record { 0 = 3 }) (record { 0 = 4 }) ∷ Lost HopLimit ∷ Delivered 77 ∷ No Waiting ∷ [])
+    ≡ map bytes ("(ok)\n" ∷ "(made 3)\n" ∷ "(made 3 4)\n" ∷ "(lost 2)\n" ∷ "(delivered 77)\n" ∷ "(no 12)\n" ∷ [])
 unfolding answerText listText decimal digitsOf
 answers = refl
+
+association : associationLine (record { node = 1; out = false; peer = 2; spi = spi 1 2; users = 1 }) ≡ bytes "(assoc 1 in 2 257 1)\n"
+unfolding associationLine listText decimal digitsOf
+association = refl
 
 -- ---- lines
 

@@ -9,8 +9,8 @@ use borrow.Author.Tests.{le-leb, leb-true}
 use lib.Dec.{leb}
 use lib.ListN.{length, drop, length-append}
 use Rattle.forms.specs.Bytes.{bytes}
-use Rattle.forms.specs.Text.{Form, node, route, «open», step, send, close, show, listText, text, numbers}
-use Rattle.forms.specs.Read.{starts, fields, formWith, routeWith, openWith, stepWith, sendWith, closeWith, showWith, plainForm, formOf, read}
+use Rattle.forms.specs.Text.{Form, node, route, «open», step, send, close, show, net, listText, text, numbers}
+use Rattle.forms.specs.Read.{starts, fields, formWith, routeWith, openWith, stepWith, sendWith, closeWith, showWith, netWith, plainForm, formOf, read}
 use Rattle.forms.specs.Held.{firsts}
 use Rattle.forms.specs.Exact.{Digits, IsForm, ReadsExactly}
 use Rattle.forms.proofs.Ways.{cond-way, nothing, some-same}
@@ -45,7 +45,8 @@ module _ (most room : ℕ) (f : Form) (l : List ℕ) where
       (numbers-sound (bytes "(step") 2 stepWith _ (omega arith) (λ ns. (refl, refl))
       (numbers-sound (bytes "(send") 3 sendWith _ (omega arith) (λ ns. (refl, refl))
       (numbers-sound (bytes "(close") 1 closeWith _ (omega arith) (λ ns. (refl, refl))
-      (numbers-sound (bytes "(show") 0 showWith _ (omega arith) (λ ns. (refl, refl)) nothing))))))
+      (numbers-sound (bytes "(show") 0 showWith _ (omega arith) (λ ns. (refl, refl))
+      (numbers-sound (bytes "(net") 0 netWith _ (omega arith) (λ ns. (refl, refl)) nothing)))))))
 
 -- ---- what is written is read
 
@@ -58,6 +59,7 @@ form-complete most room (step u k) h d = ap (formWith stepWith) (fields-complete
 form-complete most room (send u w t) h d = ap (formWith sendWith) (fields-complete most 3 (u ∷ w ∷ t ∷ []) refl (omega arith) d)
 form-complete most room (close u) h d = ap (formWith closeWith) (fields-complete most 1 (u ∷ []) refl (omega arith) d)
 form-complete most room show h d = ap (formWith showWith) (fields-complete most 0 [] refl (omega arith) d)
+form-complete most room net h d = ap (formWith netWith) (fields-complete most 0 [] refl (omega arith) d)
 
 -- no number is longer than its form
 form-digits : (most : ℕ) (f : Form) → length (text f) ≤ most → Digits most (numbers f)
@@ -71,6 +73,7 @@ form-digits most (step u k) h = list-digits most (u ∷ k ∷ []) (omega arith)
 form-digits most (send u w t) h = list-digits most (u ∷ w ∷ t ∷ []) (omega arith)
 form-digits most (close u) h = list-digits most (u ∷ []) (omega arith)
 form-digits most show h = tt
+form-digits most net h = tt
 
 -- ---- the theorem
 

@@ -11,16 +11,17 @@ use lib.ListN.{length, getD, take}
 use lib.Seq.{length-take-le}
 use Rattle.calculus.specs.Number.{within}
 use Rattle.calculus.specs.declared.answer.Refusal.the-variants.{Unreadable}
+use Rattle.calculus.specs.declared.request.Request as request
 use Rattle.calculus.proofs.Tests.{Way, is, isnt, way, both, within-bounds}
 use Rattle.forms.specs.declared.fields.Fields.{Fields}
 use Rattle.forms.specs.declared.list.ListRead as listRead
 use Rattle.forms.specs.declared.node.Tally.{Tally}
-use Rattle.forms.specs.declared.read.Parsed.the-variants.{Refused}
+use Rattle.forms.specs.declared.read.Parsed.the-variants.{Asks, Refused}
 use Rattle.forms.specs.declared.read.Reading.{Reading}
 use Rattle.forms.specs.Text.{Form}
 use Rattle.forms.specs.Read.{list, fields, formWith}
 use Rattle.forms.specs.Request.{plain, reading, asked}
-use Rattle.forms.specs.Held.{Filled, listIn, firsts, fieldsIn, fresh, tallied, gathered}
+use Rattle.forms.specs.Held.{Filled, listIn, firsts, fieldsIn, bareReading, fresh, tallied, gathered}
 use Rattle.forms.proofs.Lists.{firsts-all}
 
 -- ---- tests joined
@@ -91,3 +92,16 @@ module _ (form : List ℕ → Form) (n : ℕ) (f : Fields) {o : Option (List ℕ
 
   pub form-broken : f .ok ≡ false → r ≡ plain (Refused Unreadable) → r ≡ asked (formWith form o)
   form-broken q h = h ∙ rw (← e, q)
+
+-- a form of no numbers
+module _ (q : request.Request) (f : Fields) {o : Option (List ℕ)} {r : Reading} (e : fieldsIn 0 f ≡ o) where
+  pub bare-read : f .ok ≡ true → r ≡ plain (Asks q) → r ≡ bareReading q o
+  bare-read h g = g ∙ rw (← e, h)
+
+  pub bare-broken : f .ok ≡ false → r ≡ plain (Refused Unreadable) → r ≡ bareReading q o
+  bare-broken h g = g ∙ rw (← e, h)
+
+pub bare-form : (form : List ℕ → Form) (q : request.Request) → ((ns : List ℕ) → reading (form ns) ≡ plain (Asks q)) → (o : Option (List ℕ))
+    → bareReading q o ≡ asked (formWith form o)
+bare-form form q h (some ns) = sym (h ns)
+bare-form form q h none = refl

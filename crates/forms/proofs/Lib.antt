@@ -12,4 +12,7 @@ pub mod Picks
 pub mod Held
 pub mod Tallies
 pub mod Splits
+pub mod Credentials
+pub mod FormLines
+pub mod NetworkForms
 pub mod Cases

@@ -1,25 +1,17 @@
--- The line of each answer. `answers` and `model` cite it. Assumes nothing.
+-- The line of each answer, and the lines of show's report. `answers` and `model` cite it. Assumes nothing.
 use Prim.Native.Nat.{ℕ}
 use mathlib.Core.Bool.{Bool, true, false}
 use mathlib.Core.List.{List, [], _∷_, _++_}
 use Rattle.calculus.specs.Answer.{refusalNumber, lossNumber}
 use Rattle.calculus.specs.declared.answer.Answer as answer
-use Rattle.calculus.specs.declared.answer.Answer.the-variants.{Ok, Made, MadeTwo, Lost, Denied, Opened, Delivered, Closed, No, Assoc, End}
+use Rattle.calculus.specs.declared.answer.Answer.the-variants.{Ok, Made, MadeTwo, Lost, Denied, Opened, Delivered, Closed, No}
+use Rattle.calculus.specs.declared.answer.Association.{Association}
 use Rattle.forms.specs.Bytes.{bytes, decimal, joined}
 use Rattle.forms.specs.Text.{listText}
 
 -- a word, its numbers and a newline
 abbrev pub lineText : List ℕ → List ℕ → List ℕ
 lineText word ns = word ++ (listText ns ++ bytes "\n")
-
--- an association's direction: out, or in
-abbrev pub directionText : Bool → List ℕ
-directionText true = bytes " out"
-directionText false = bytes " in"
-
--- an association's line: its node, its direction and its numbers ns
-abbrev pub assocText : ℕ → Bool → List ℕ → List ℕ
-assocText a out ns = joined (bytes "(assoc " ∷ decimal a ∷ directionText out ∷ lineText [] ns ∷ [])
 
 -- the line of an answer, with its newline
 unfoldable pub answerText : answer.Answer → List ℕ
@@ -32,5 +24,17 @@ answerText Opened = bytes "(opened)\n"
 answerText (Delivered t) = lineText (bytes "(delivered") (t ∷ [])
 answerText Closed = bytes "(closed)\n"
 answerText (No r) = lineText (bytes "(no") (refusalNumber r ∷ [])
-answerText (Assoc a out q s users) = assocText a out (q ∷ s .0 ∷ users ∷ [])
-answerText End = bytes "(end)\n"
+
+-- an association's direction: out, or in
+abbrev pub directionText : Bool → List ℕ
+directionText true = bytes " out"
+directionText false = bytes " in"
+
+-- an association's line, with its newline
+unfoldable pub associationLine : Association → List ℕ
+associationLine x =
+    joined (bytes "(assoc " ∷ decimal (x .node) ∷ directionText (x .out) ∷ lineText [] (x .peer ∷ x .spi .0 ∷ x .users ∷ []) ∷ [])
+
+-- the last line of show's report
+abbrev pub endLine : List ℕ
+endLine = bytes "(end)\n"

@@ -8,6 +8,7 @@ use lib.ListN.{length, getD, take, drop, set}
 use Rattle.calculus.specs.Number.{within, isNode}
 use Rattle.calculus.specs.declared.answer.Refusal.the-variants.{Unreadable, Range}
 use Rattle.calculus.specs.declared.network.Kind.{Kind}
+use Rattle.calculus.specs.declared.request.Request as request
 use Rattle.calculus.specs.declared.request.Request.the-variants.{Node}
 use Rattle.forms.specs.declared.fields.Fields.{Fields}
 use Rattle.forms.specs.declared.node.Tally.{Tally}
@@ -57,6 +58,11 @@ firsts n v = take n (getD v 0 0 ∷ getD v 1 0 ∷ getD v 2 0 ∷ [])
 -- the n numbers held, or none
 abbrev pub fieldsIn : ℕ → Fields → Option (List ℕ)
 fieldsIn n f = cond (f .ok) (some (firsts n (f .values))) none
+
+-- what a form that has no numbers and asks q asks, by the numbers that stand there
+abbrev pub bareReading : request.Request → Option (List ℕ) → Reading
+bareReading q (some ns) = plain (Asks q)
+bareReading q none = plain (Refused Unreadable)
 
 -- ---- a node's credentials
 

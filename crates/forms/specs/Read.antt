@@ -10,7 +10,7 @@ use Rattle.calculus.specs.declared.network.Kind.the-variants.{Host, Gateway}
 use Rattle.forms.specs.declared.scan.Number.{Number}
 use Rattle.forms.specs.declared.scan.Number.the-variants.{Found, Missing}
 use Rattle.forms.specs.Bytes.{bytes}
-use Rattle.forms.specs.Text.{Form, node, route, «open», step, send, close, show}
+use Rattle.forms.specs.Text.{Form, node, route, «open», step, send, close, show, net}
 
 -- l begins with w
 unfoldable pub starts : List ℕ → List ℕ → Bool
@@ -88,6 +88,9 @@ closeWith ns = close (getD ns 0 0)
 abbrev pub showWith : List ℕ → Form
 showWith ns = show
 
+abbrev pub netWith : List ℕ → Form
+netWith ns = net
+
 -- l is w
 abbrev pub isText : List ℕ → List ℕ → Bool
 isText w l = starts w l && eqb (length l) (length w)
@@ -131,7 +134,8 @@ plainForm most l =
     (cond (starts (bytes "(step") l) (formWith stepWith (fields most 2 (drop 5 l)))
     (cond (starts (bytes "(send") l) (formWith sendWith (fields most 3 (drop 5 l)))
     (cond (starts (bytes "(close") l) (formWith closeWith (fields most 1 (drop 6 l)))
-    (cond (starts (bytes "(show") l) (formWith showWith (fields most 0 (drop 5 l))) none)))))
+    (cond (starts (bytes "(show") l) (formWith showWith (fields most 0 (drop 5 l)))
+    (cond (starts (bytes "(net") l) (formWith netWith (fields most 0 (drop 4 l))) none))))))
 
 -- the form that l is, with numbers of at most `most` digits and lists of at most `room` credentials
 unfoldable pub formOf : ℕ → ℕ → List ℕ → Option Form

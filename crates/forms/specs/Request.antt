@@ -5,13 +5,14 @@ use mathlib.Core.List.{List, [], _∷_}
 use mathlib.Core.Option.{Option, none, some}
 use lib.ListN.{set, replicate}
 use Rattle.calculus.specs.Number.{within, isNode, isSession, isItem, isTag, senderOf}
+use Rattle.calculus.specs.Table.{entriesFrom, onlyIf}
 use Rattle.calculus.specs.declared.answer.Refusal.the-variants.{Unreadable, Range}
 use Rattle.calculus.specs.declared.request.Request as request
-use Rattle.calculus.specs.declared.request.Request.the-variants.{Node, Route, Open, Step, Send, Close, Show}
+use Rattle.calculus.specs.declared.request.Request.the-variants.{Node, Route, Open, Step, Send, Close, Show, Net}
 use Rattle.forms.specs.declared.read.Parsed.{Parsed}
 use Rattle.forms.specs.declared.read.Parsed.the-variants.{Asks, Refused}
 use Rattle.forms.specs.declared.read.Reading.{Reading}
-use Rattle.forms.specs.Text.{Form, node, route, «open», step, send, close, show}
+use Rattle.forms.specs.Text.{Form, node, route, «open», step, send, close, show, net}
 
 -- "credentials 0 to 63", strictly rising, the first at least `least`
 abbrev pub rising : ℕ → List ℕ → Bool
@@ -22,6 +23,10 @@ rising least (n ∷ ns) = within least 63 n && rising (n + 1) ns
 abbrev pub holding : List Bool → List ℕ → List Bool
 holding s [] = s
 holding s (n ∷ ns) = holding (set s n true) ns
+
+-- the credentials n, n + 1, .. that a set holds, by the rest of it: rising
+abbrev pub credentialsFrom : ℕ → List Bool → List ℕ
+credentialsFrom n s = entriesFrom (λ m held. onlyIf held m) n s
 
 -- the empty set
 abbrev pub noCredentials : List Bool
@@ -47,6 +52,7 @@ reading (step u k) = plain (inRange (isSession u && isItem k) (Step (record { 0 
 reading (send u w t) = plain (inRange (isSession u && (within 0 1 w && isTag t)) (Send (record { 0 = u }) (senderOf w) t))
 reading (close u) = plain (inRange (isSession u) (Close (record { 0 = u })))
 reading show = plain (Asks Show)
+reading net = plain (Asks Net)
 
 -- what a line asks: where it is no form, refusal 1
 abbrev pub asked : Option Form → Reading

@@ -14,6 +14,7 @@ pub data Form : Type 0 where
   send : ℕ → ℕ → ℕ → Form
   close : ℕ → Form
   show : Form
+  net : Form
 
 -- " 1 4 2)": each number behind a space, then a closing bracket
 unfoldable pub listText : List ℕ → List ℕ
@@ -35,6 +36,7 @@ text (step u k) = bytes "(step" ++ listText (u ∷ k ∷ [])
 text (send u w t) = bytes "(send" ++ listText (u ∷ w ∷ t ∷ [])
 text (close u) = bytes "(close" ++ listText (u ∷ [])
 text show = bytes "(show" ++ listText []
+text net = bytes "(net" ++ listText []
 
 -- the numbers of a form
 abbrev pub numbers : Form → List ℕ
@@ -45,3 +47,8 @@ numbers (step u k) = u ∷ k ∷ []
 numbers (send u w t) = u ∷ w ∷ t ∷ []
 numbers (close u) = u ∷ []
 numbers show = []
+numbers net = []
+
+-- a form's line, with its newline
+abbrev pub formLine : Form → List ℕ
+formLine f = text f ++ bytes "\n"

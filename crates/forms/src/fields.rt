@@ -18,7 +18,7 @@ ghost use mathlib.Core.Path.{_≡_};
 ghost use mathlib.Core.Bool.{_&&_};
 ghost use Rattle.forms.specs.Read as spec;
 ghost use Rattle.forms.specs.Request.{asked};
-ghost use Rattle.forms.specs.Held.{fieldsIn};
+ghost use Rattle.forms.specs.Held.{fieldsIn, bareReading};
 
 // Whether as many numbers as were asked for were read, and these are the first of `values`.
 pub struct Fields {
@@ -148,13 +148,13 @@ pub fn close_at(s: &[u8]) -> Reading
     refused(Refusal::Unreadable)
 }
 
-// What stands behind `(show` asks.
-pub fn show_at(s: &[u8]) -> Reading
-    ensures { λ r. ⌜ r ≡ asked (spec.formWith spec.showWith (spec.fields 10 0 (now (s .entry)))) ⌝ }
+// What stands behind the word of a form that has no numbers and asks `request`.
+pub fn bare_at(s: &[u8], request: Request) -> Reading
+    ensures { λ r. ⌜ r ≡ bareReading request (spec.fields 10 0 (now (s .entry))) ⌝ }
 {
     let f = read_fields(s, 0);
     if f.ok {
-        return asks(Request::Show);
+        return asks(request);
     }
     refused(Refusal::Unreadable)
 }

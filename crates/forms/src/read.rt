@@ -1,9 +1,9 @@
 // A line read as a form.
+use crate::fields::bare_at;
 use crate::fields::close_at;
 use crate::fields::open_at;
 use crate::fields::route_at;
 use crate::fields::send_at;
-use crate::fields::show_at;
 use crate::fields::step_at;
 use crate::node::node_at;
 use crate::reading::refused;
@@ -47,7 +47,10 @@ fn read_plain(s: &[u8]) -> Reading
         return close_at(&s[6..]);
     }
     if starts(s, b"(show") {
-        return show_at(&s[5..]);
+        return bare_at(&s[5..], Request::Show);
+    }
+    if starts(s, b"(net") {
+        return bare_at(&s[4..], Request::Net);
     }
     refused(Refusal::Unreadable)
 }

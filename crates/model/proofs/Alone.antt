@@ -4,10 +4,10 @@ use mathlib.Core.Bool.{Bool, true, false, cond}
 use mathlib.Core.List.{List, [], _∷_, _++_, map}
 use Prim.Native.Nat.{ℕ, _+_}
 use native.Mathlib.Omega.{arith}
+use Rattle.calculus.proofs.Tests.{either}
 use Rattle.model.specs.Lists.{All, upFrom}
 use Rattle.forms.specs.Bytes.{joined}
 use Rattle.forms.specs.Answer.{answerText}
-use Rattle.model.proofs.Checks.{either}
 use Rattle.calculus.specs.declared.network.Network.{Network}
 use Rattle.calculus.specs.declared.state.Part.{Part}
 use Rattle.calculus.specs.declared.state.State.{State}

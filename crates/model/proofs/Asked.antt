@@ -6,7 +6,7 @@ use mathlib.Core.Option.{Option, none, some}
 use Prim.Native.Nat.{ℕ}
 use lib.Dec.{eqb}
 use Rattle.calculus.specs.Number.{isNode, within, isSession, isItem, isTag, senderOf}
-use Rattle.calculus.proofs.Tests.{both, never}
+use Rattle.calculus.proofs.Tests.{both, never, either}
 use Rattle.calculus.specs.declared.answer.Refusal.{Refusal}
 use Rattle.calculus.specs.declared.answer.Refusal.the-variants.{Unreadable, Range}
 use Rattle.calculus.specs.declared.network.Kind.{Kind}
@@ -23,7 +23,7 @@ use Rattle.forms.specs.Request.{rising, holding, noCredentials, inRange, plain,
 use Rattle.model.specs.Row.{stands}
 use Rattle.model.specs.Requests.{Move, refuse, openMove, stepMove, sendMove, closeMove, performed}
 use Rattle.model.specs.State.{load}
-use Rattle.model.proofs.Checks.{either, IsWritten}
+use Rattle.model.proofs.Checks.{IsWritten}
 use Rattle.model.specs.Calls.{oneAnswer, requested, formGivesNetwork, formNames}
 
 -- the session of a request, 0 if it has none

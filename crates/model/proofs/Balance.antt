@@ -7,7 +7,7 @@ use native.Mathlib.Omega.{arith}
 use lib.Dec.{leb, eqb}
 use lib.ListN.{length}
 use borrow.Author.Tests.{not-false, leb-false, eqb-true}
-use Rattle.calculus.proofs.Tests.{never}
+use Rattle.calculus.proofs.Tests.{never, either}
 use Rattle.calculus.specs.declared.effect.Wait.{Wait}
 use Rattle.calculus.specs.declared.effect.Effect.{Effect}
 use Rattle.calculus.specs.declared.network.Network.{Network}
@@ -32,7 +32,6 @@ use Rattle.model.specs.Row.{held, admits}
 use Rattle.model.specs.Rules.{writesFor, discovers, unprotected, onward, wireRule, outRule, headerStands, upWith, upRule, agrees, received, inRule, estRule, authRule, grantRule, ackRule, rule}
 use Rattle.model.specs.State.{writtenCount, stageAfter, begunAfter, addedRows}
 use Rattle.model.specs.SetUp.{isPending}
-use Rattle.model.proofs.Checks.{either}
 use Rattle.model.proofs.Weights.{count, weighOut, weighWait}
 use Rattle.model.proofs.SetUpWeights.{waits, uses, space, carries, due, spare, packetSpace, Wanted, wanted}
 

@@ -6,13 +6,13 @@ use Prim.Native.Nat.{ℕ, zero, suc, _≤_}
 use native.Mathlib.Omega.{arith}
 use lib.ListN.{length, length-append}
 use lib.Seq.{length-take-le}
+use Rattle.calculus.proofs.Tests.{either}
 use Rattle.calculus.specs.declared.state.State.{State}
 use Rattle.forms.specs.Line.{nextLine}
 use Rattle.forms.specs.declared.line.Line.{Line}
 use Rattle.forms.specs.declared.line.Line.the-variants.{Found, End}
 use Rattle.forms.proofs.Splits.{line-inside}
 use Rattle.model.specs.Batch.{Batch, behind, oneMore, isOver, answeredLines, answeredText}
-use Rattle.model.proofs.Checks.{either}
 
 -- ---- one line more, or none
 

@@ -9,10 +9,6 @@ use Rattle.calculus.specs.Answer.{refusalNumber}
 use Rattle.calculus.specs.declared.answer.Refusal.{Refusal}
 use Rattle.model.specs.Requests.{Check, checked}
 
-pub either : {A : Type 0} (P : A → Type 0) (b : Bool) {x y : A} → (b ≡ true → P x) → (b ≡ false → P y) → P (cond b x y)
-either P true f g = f refl
-either P false f g = g refl
-
 -- a test, counted
 abbrev pub one : Bool → ℕ
 one b = cond b 1 0

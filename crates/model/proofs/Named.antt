@@ -6,7 +6,7 @@ use Prim.Native.Nat.{ℕ, _≤_}
 use native.Mathlib.Omega.{arith}
 use lib.Dec.{leb, eqb}
 use borrow.Author.Tests.{eqb-true, eqb-false, eq-eqb, ne-eqb}
-use Rattle.calculus.proofs.Tests.{both, never}
+use Rattle.calculus.proofs.Tests.{both, never, either}
 use Rattle.calculus.specs.Number.{isNode}
 use Rattle.calculus.specs.declared.effect.Outcome.{Outcome}
 use Rattle.calculus.specs.declared.effect.Outcome.the-variants.{Wrote, WroteTwo, Lost, Denied, Opened, Delivered}
@@ -34,7 +34,6 @@ use Rattle.model.specs.Row.{held, fits, newer, newest, admits, areNodes}
 use Rattle.model.specs.Rules.{discovers, lastPoint, unprotected, onward, wireRule, headerTo, outRule, headerStands, upWith, upRule, agrees, received, inRule, estRule, authRule, grantRule, ackRule, rule}
 use Rattle.model.specs.State.{addedRows}
 use Rattle.model.specs.SetUp.{isDisc}
-use Rattle.model.proofs.Checks.{either}
 use Rattle.model.specs.Lists.{fold, All}
 use Rattle.model.proofs.Users.{are-nodes}
 use Rattle.model.proofs.Nodes.{Node, LeadsToNode, Routed, routed}

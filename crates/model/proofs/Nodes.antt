@@ -5,7 +5,7 @@ use mathlib.Core.List.{List}
 use Prim.Native.Nat.{ℕ, _-_}
 use lib.Dec.{eqb}
 use lib.ListN.{getD}
-use Rattle.calculus.proofs.Tests.{never}
+use Rattle.calculus.proofs.Tests.{never, either}
 use Rattle.calculus.specs.Number.{isNode}
 use Rattle.calculus.specs.declared.network.Kind.{Kind}
 use Rattle.calculus.specs.declared.network.Network.{Network}
@@ -16,7 +16,6 @@ use Rattle.model.specs.Network.{noNode, nodeAt, given, isGate, routePlac
 use Rattle.model.specs.State.{fresh}
 use Rattle.model.specs.Requests.{withNode, withRoute}
 use Rattle.model.specs.SetUp.{HoldsNetwork}
-use Rattle.model.proofs.Checks.{either}
 use Rattle.model.specs.Lists.{All}
 use Rattle.model.proofs.Lists.{all-set, all-get, get-set, all-replicate, all-map}
 

@@ -5,6 +5,7 @@ use Prim.Native.Nat.{ℕ, zero, suc, _+_}
 use native.Mathlib.Nat.{zero-add, add-zero}
 use native.Mathlib.Omega.{arith}
 use lib.Dec.{ltb}
+use Rattle.calculus.proofs.Tests.{either}
 use Rattle.calculus.specs.declared.effect.Outcome.{Outcome}
 use Rattle.calculus.specs.declared.effect.Outcome.the-variants.{Wrote, WroteTwo, Lost, Denied, Opened, Delivered}
 use Rattle.calculus.specs.declared.effect.Effect.{Effect}
@@ -21,7 +22,7 @@ use Rattle.model.specs.State.{answerOf, writtenCount, applied, sessionAf
 use Rattle.model.specs.Requests.{Move, refuse, opening, openMove, stepped, stepAt, stepMove, sending, sendMove, closing, closeMove}
 use Rattle.model.specs.Calls.{Call}
 use Rattle.model.specs.Noninterference.{numbersInAll}
-use Rattle.model.proofs.Checks.{either, checked-either}
+use Rattle.model.proofs.Checks.{checked-either}
 use Rattle.model.proofs.Asked.{ownMove, own-cases}
 use Rattle.model.proofs.Local.{Seen, seenMove, seenParsed, local}
 

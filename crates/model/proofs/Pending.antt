@@ -10,7 +10,7 @@ use lib.Dec.{eqb}
 use lib.ListN.{set}
 use borrow.Author.Tests.{le-leb, lt-leb, eq-eqb, ne-eqb}
 use Rattle.calculus.specs.Number.{within}
-use Rattle.calculus.proofs.Tests.{within-bounds}
+use Rattle.calculus.proofs.Tests.{within-bounds, either}
 use Rattle.calculus.specs.declared.effect.Outcome.{Outcome}
 use Rattle.calculus.specs.declared.effect.Outcome.the-variants.{Wrote, WroteTwo, Lost, Denied, Opened, Delivered}
 use Rattle.calculus.specs.declared.effect.Wait.{Wait}
@@ -23,7 +23,7 @@ use Rattle.model.specs.Lists.{place, tally}
 use Rattle.model.specs.Item.{isFree, isThatWait, vacant}
 use Rattle.model.specs.State.{blankSlot, isNumbered, useUp, putItem, written, writtenCount, itemsAfter, sessionAfter, applied}
 use Rattle.model.specs.Requests.{withItem}
-use Rattle.model.proofs.Checks.{either, one, one-le}
+use Rattle.model.proofs.Checks.{one, one-le}
 
 pub record Distinct (t : Part) : Type 0 where
   pub once : (k : ℕ) → tally (isNumbered k) (t .items) ≤ one (within 1 (t .session .last .0) k)

@@ -5,7 +5,7 @@ use mathlib.Core.List.{List}
 use mathlib.Core.Option.{Option, none, some}
 use Prim.Native.Nat.{ℕ}
 use lib.Dec.{ltb}
-use Rattle.calculus.proofs.Tests.{never}
+use Rattle.calculus.proofs.Tests.{never, either}
 use Rattle.calculus.specs.declared.answer.Answer.{Answer}
 use Rattle.calculus.specs.declared.answer.Answer.the-variants.{Ok, Made, MadeTwo, Lost, Denied, Opened, Delivered, Closed, No, Assoc, End}
 use Rattle.calculus.specs.declared.answer.Refusal.{Refusal}
@@ -27,7 +27,7 @@ use Rattle.model.specs.Requests.{refused, nodeTurn, routeTurn, Move, ref
 use Rattle.model.specs.Row.{stands}
 use Rattle.model.specs.Calls.{answered, requested, repliedTo, refusalIn, oneAnswer}
 use Rattle.model.specs.Refusals.{isOneLine, CanReply, refusedWith, answeredWith, shownWith, Refusals}
-use Rattle.model.proofs.Checks.{either, IsWritten, checked-written}
+use Rattle.model.proofs.Checks.{IsWritten, checked-written}
 use Rattle.model.proofs.Asked.{ownMove, own-cases, requested-own, Meaning, refuses, givesNode, givesRoute, ofSession, shows, meaning}
 
 -- ---- one line

@@ -7,7 +7,7 @@ use native.Mathlib.Omega.{arith}
 use lib.Dec.{ltb, eqb}
 use borrow.Author.Tests.{eqb-false, not-false}
 use Rattle.calculus.specs.Number.{isNode, isSession}
-use Rattle.calculus.proofs.Tests.{within-bounds, both, never}
+use Rattle.calculus.proofs.Tests.{within-bounds, both, never, either}
 use Rattle.calculus.specs.declared.network.Kind.{Kind}
 use Rattle.calculus.specs.declared.network.Network.{Network}
 use Rattle.calculus.specs.declared.request.Request as request
@@ -20,7 +20,7 @@ use Rattle.model.specs.Network.{given}
 use Rattle.model.specs.State.{load, store}
 use Rattle.model.specs.Requests.{refused, accepted, withNode, withRoute, nodeTurn, routeTurn, Move, refuse, moved, changed, performed}
 use Rattle.model.specs.Calls.{Reply, Call, call, answered, requested, repliedTo, givesNetwork, isOwn}
-use Rattle.model.proofs.Checks.{either, checked-either}
+use Rattle.model.proofs.Checks.{checked-either}
 use Rattle.model.proofs.Parts.{Numbered}
 use Rattle.model.proofs.Asked.{sessionIn, moveIn, requested-own, Meaning, refuses, givesNode, givesRoute, ofSession, shows, meaning}
 use Rattle.model.proofs.Counted.{Good, naming-others}

@@ -5,6 +5,7 @@ use mathlib.Core.List.{List, [], _∷_, _++_}
 use Prim.Native.Nat.{ℕ, _+_, _≤_, _<_}
 use native.Mathlib.Omega.{arith}
 use lib.Seq.{take-all}
+use Rattle.calculus.proofs.Tests.{either}
 use Rattle.calculus.specs.declared.effect.Outcome.{Outcome}
 use Rattle.calculus.specs.declared.effect.Outcome.the-variants.{Wrote, WroteTwo, Lost, Denied, Opened, Delivered}
 use Rattle.calculus.specs.declared.effect.Wait.{Wait}
@@ -25,7 +26,6 @@ use Rattle.model.specs.Calls.{after}
 use Rattle.model.specs.Requests.{unused}
 use Rattle.model.specs.Lists.{tally, All}
 use Rattle.model.proofs.Lists.{all-map}
-use Rattle.model.proofs.Checks.{either}
 use Rattle.model.proofs.Weights.{count, counted, weighOut, weighWait, weigh-le, weigh-sum, weigh-at, weigh-put, free-or-pending}
 use Rattle.model.proofs.SetUpWeights.{uses, space, carries, due, spare, wanted, pends, set-up-space, pending, grant-due}
 use Rattle.model.proofs.Parts.{Numbered}

@@ -8,14 +8,13 @@ use native.Mathlib.Omega.{arith}
 use lib.Dec.{ltb, eqb}
 use lib.ListN.{length, getD, take, drop}
 use lib.Seq.{getD-take, getD-drop}
-use Rattle.calculus.proofs.Tests.{both, never}
+use Rattle.calculus.proofs.Tests.{both, never, either}
 use Rattle.calculus.specs.declared.answer.Answer.{Answer}
 use Rattle.calculus.specs.declared.answer.Answer.the-variants.{Assoc, End}
 use Rattle.model.specs.Row.{sameWay, spiOf, usersPlace, areNodes, usersOf}
 use Rattle.model.specs.Requests.{peerLines, nodeLines, shown}
 use Rattle.model.specs.Show.{isLineOf, linesFor, isShown, Show}
 use borrow.Author.Tests.{eqb-true, le-leb, ne-eqb}
-use Rattle.model.proofs.Checks.{either}
 use Rattle.model.proofs.ShowLines.{ins, outs, peers-all, nodes-all, shown-fits}
 use Rattle.model.specs.Lists.{All}
 use Rattle.model.proofs.Lists.{all-of}

@@ -6,6 +6,7 @@ use Prim.Native.Nat.{ℕ, zero, suc, _+_, _*_, _≤_, _<_}
 use native.Mathlib.Omega.{arith}
 use lib.Dec.{ltb}
 use lib.ListN.{length, take, drop, length-take, length-append}
+use Rattle.calculus.proofs.Tests.{either}
 use Rattle.calculus.specs.Number.{isNode, spi}
 use Rattle.calculus.specs.declared.answer.Answer.{Answer}
 use Rattle.calculus.specs.declared.answer.Answer.the-variants.{Assoc, End}
@@ -17,7 +18,6 @@ use Rattle.forms.proofs.Lists.{width-list}
 use Rattle.model.specs.Lists.{All}
 use Rattle.model.specs.Row.{spiOf}
 use Rattle.model.specs.Requests.{peerLines, nodeLines, shown}
-use Rattle.model.proofs.Checks.{either}
 use Rattle.model.proofs.Users.{node-bounds}
 use Rattle.model.proofs.Lists.{all-append, all-take, all-drop}
 

@@ -7,6 +7,7 @@ use native.Mathlib.Omega.{arith}
 use borrow.Author.Tests.{ne-eqb, ltb-true, le-ltb}
 use lib.ListN.{length, take, drop, length-append, length-take, length-drop}
 use lib.Seq.{take-append-seam}
+use Rattle.calculus.proofs.Tests.{either}
 use Rattle.calculus.specs.declared.state.State.{State}
 use Rattle.forms.specs.Line.{lineLength, lines}
 use Rattle.model.specs.Lists.{fold}
@@ -14,7 +15,6 @@ use Rattle.model.specs.Calls.{Reply, answered, linesOf, after, replies}
 use Rattle.model.specs.Batch.{answeredText}
 use Rattle.model.specs.Texts.{answersTo, NoNewline, AnswersText}
 use Rattle.model.specs.Stream.{Stream, hasLine, tooLong, kept, Event, arrives, lent, afterEvent, streamed, inputOf, finished, Streams}
-use Rattle.model.proofs.Checks.{either}
 use Rattle.model.proofs.Texts.{texts, answered-roomy}
 use Rattle.model.proofs.Unfinished.{Total, total, total-append, total-kept, lines-unfinished}
 

@@ -9,11 +9,11 @@ use lib.ListN.{length, getD, set, length-set}
 use lib.Seq.{getD-set-same, getD-set-other}
 use borrow.Author.Tests.{ltb-true, eqb-true, lt-ltb, eq-eqb}
 use Rattle.calculus.specs.Number.{isNode}
-use Rattle.calculus.proofs.Tests.{both, within-bounds, never}
+use Rattle.calculus.proofs.Tests.{both, within-bounds, never, either}
 use Rattle.calculus.specs.declared.session.Row.{Row}
 use Rattle.model.specs.Lists.{fold}
 use Rattle.model.specs.Row.{sameWay, names, admits, howMany, usersPlace, areNodes, usersOf, withUsers, oneMore, oneLess, raised, lowered}
-use Rattle.model.proofs.Checks.{either, one, one-le}
+use Rattle.model.proofs.Checks.{one, one-le}
 
 -- ---- rows counted
 

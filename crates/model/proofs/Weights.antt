@@ -7,7 +7,7 @@ use native.Mathlib.Omega.{arith}
 use lib.Dec.{eqb}
 use lib.ListN.{length, getD, set, length-set}
 use borrow.Author.Tests.{eqb-true}
-use Rattle.calculus.proofs.Tests.{both, never}
+use Rattle.calculus.proofs.Tests.{both, never, either}
 use Rattle.calculus.specs.declared.effect.Outcome.{Outcome}
 use Rattle.calculus.specs.declared.effect.Outcome.the-variants.{Wrote, WroteTwo, Lost, Denied, Opened, Delivered}
 use Rattle.calculus.specs.declared.effect.Wait.{Wait}
@@ -20,7 +20,7 @@ use Rattle.model.specs.Lists.{place}
 use Rattle.model.specs.State.{blankSlot, useUp, putItem, written, writtenCount, itemsAfter}
 use Rattle.model.specs.Item.{isFree, waitIn, isSomeWait, isWait, sameWait, isThatWait, howManyItems}
 use Rattle.model.specs.SetUp.{isPending, Pends, itemAt}
-use Rattle.model.proofs.Checks.{either, one, one-le}
+use Rattle.model.proofs.Checks.{one, one-le}
 
 -- ---- weights
 

@@ -3,8 +3,8 @@ use mathlib.Core.List.{List}
 use Prim.Native.Nat.{ℕ, _+_, _≤_, min}
 use native.Mathlib.Omega.{arith}
 use lib.ListN.{length, take, drop, length-append}
+use Rattle.calculus.proofs.Tests.{either}
 use Rattle.model.specs.Stream.{Stream, hasLine, arrives, lent, afterEvent}
-use Rattle.model.proofs.Checks.{either}
 use Rattle.pieces.specs.declared.Progress.{Progress}
 use Rattle.pieces.specs.Progress.{streamOf, isEnd, Advanced, lineLeft, noLineLeft, answeredInto, ended, advanced, Advances}
 

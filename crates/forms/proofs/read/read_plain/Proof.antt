@@ -2,8 +2,9 @@
 use borrow.Author.Needs.{needs}
 use mathlib.Core.Path.{refl, _∙_}
 use Rattle.forms.specs.Bytes.{bytes}
-use Rattle.forms.specs.Read.{fields, formWith, routeWith, openWith, stepWith, sendWith, closeWith, showWith, plainForm}
-use Rattle.forms.proofs.Picks.{Left, first, skip, pick, inside}
+use Rattle.forms.specs.Read.{fields, formWith, routeWith, openWith, stepWith, sendWith, closeWith, showWith, netWith, plainForm}
+use Rattle.calculus.specs.declared.request.Request.the-variants.{Show, Net}
+use Rattle.forms.proofs.Picks.{Left, first, skip, pick, pick-bare, inside}
 use Rattle.forms.proofs.read.read_plain.Statement.{statement}
 use Rattle.forms.proofs.read.read_plain.Tie as tie
 
@@ -75,22 +76,35 @@ abbrev not-close : tie.Else5 → Left
 unfolding plainForm
 not-close c = skip (not-send (c .before .before .before)) _ _ refl (c .before .starts5 .ensures) (c .if5 .left)
 
-sub-show-at : tie.Need-sub-show-at
-sub-show-at c = inside (bytes "(show") _ (c .before .starts6 .ensures) (c .if6 .taken)
+sub-bare-at : tie.Need-sub-bare-at
+sub-bare-at c = inside (bytes "(show") _ (c .before .starts6 .ensures) (c .if6 .taken)
 
 returns-6 : tie.Need-returns-6
 unfolding plainForm
 returns-6 c =
     let c₃ = c .before .before .before in
-    pick (λ l. formWith showWith (fields 10 0 l)) 5 (not-close (c₃ .before .before)) _ refl (c₃ .starts6 .ensures) (c .before .before .if6 .taken) (c .show-at .ensures)
+    pick-bare showWith Show (λ ns. refl) 5 (not-close (c₃ .before .before)) _ refl (c₃ .starts6 .ensures) (c .before .before .if6 .taken) (c .bare-at .ensures)
 
 abbrev not-show : tie.Else6 → Left
 unfolding plainForm
 not-show c = skip (not-close (c .before .before .before)) _ _ refl (c .before .starts6 .ensures) (c .if6 .left)
 
+sub-bare-at-2 : tie.Need-sub-bare-at-2
+sub-bare-at-2 c = inside (bytes "(net") _ (c .before .starts7 .ensures) (c .if7 .taken)
+
 returns-7 : tie.Need-returns-7
 unfolding plainForm
-returns-7 c = c .refused .ensures ∙ rw (not-show (c .before) .same)
+returns-7 c =
+    let c₃ = c .before .before .before in
+    pick-bare netWith Net (λ ns. refl) 4 (not-show (c₃ .before .before)) _ refl (c₃ .starts7 .ensures) (c .before .before .if7 .taken) (c .bare-at2 .ensures)
+
+abbrev not-net : tie.Else7 → Left
+unfolding plainForm
+not-net c = skip (not-show (c .before .before .before)) _ _ refl (c .before .starts7 .ensures) (c .if7 .left)
+
+returns-8 : tie.Need-returns-8
+unfolding plainForm
+returns-8 c = c .refused .ensures ∙ rw (not-net (c .before) .same)
 
 pub read-plain-spec : {M : Type 1} → statement M
 read-plain-spec =
@@ -133,10 +147,17 @@ read-plain-spec =
     returns-5
     (λ c. search needs)
     (λ c κs. search needs)
-    sub-show-at
-    sub-show-at
+    sub-bare-at
+    sub-bare-at
     (λ c. search needs)
     (λ c κs. search needs)
     returns-6
+    (λ c. search needs)
     (λ c κs. search needs)
-    returns-7)
+    sub-bare-at-2
+    sub-bare-at-2
+    (λ c. search needs)
+    (λ c κs. search needs)
+    returns-7
+    (λ c κs. search needs)
+    returns-8)
