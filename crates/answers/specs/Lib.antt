@@ -1,3 +1,3 @@
--- What the contracts of `answers` cite: an output with an answer's line.
+-- What the contracts of `answers` cite: an output with a text in it.
 pub mod Write
 pub mod Put

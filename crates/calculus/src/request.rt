@@ -46,7 +46,7 @@ pub enum Request {
 
 // Whose lines answer a request: its answer's, or a report's.
 pub enum Report {
-    Answer,
-    Associations,
-    Network,
+    OneAnswer,
+    AllAssociations,
+    WholeNetwork,
 }

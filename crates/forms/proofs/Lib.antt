@@ -13,6 +13,7 @@ pub mod Held
 pub mod Tallies
 pub mod Splits
 pub mod Credentials
+pub mod Joined
 pub mod FormLines
 pub mod NetworkForms
 pub mod Cases

@@ -9,7 +9,7 @@ use lib.ListN.{length, length-append}
 use Rattle.calculus.specs.declared.network.Kind.{Kind}
 use Rattle.calculus.specs.declared.network.Kind.the-variants.{Host, Gateway}
 use Rattle.forms.specs.Bytes.{decimal}
-use Rattle.forms.specs.Text.{Form, node, route, listText, kindText, text}
+use Rattle.forms.specs.Text.{Form, node, route, net, listText, kindText, text}
 use Rattle.forms.specs.Request.{credentialsFrom}
 use Rattle.forms.specs.Read.{read}
 use Rattle.forms.specs.Exact.{IsForm}
@@ -71,3 +71,10 @@ route-read a b next h g j =
           (omega (arith, width-most 1 b (omega arith)),
           (omega (arith, width-most 1 next (omega arith)), tt)));
     })
+
+net-width : length (text net) ≤ 400
+unfolding text listText
+net-width = omega arith
+
+pub net-read : read (text net) ≡ some net
+net-read = reads-exactly .exact (text net) net .1 (record { written = refl; short = net-width; digits = tt })

@@ -6,14 +6,12 @@ use Prim.Native.Nat.{ℕ, _+_}
 use native.Mathlib.Omega.{arith}
 use Rattle.calculus.proofs.Tests.{either}
 use Rattle.model.specs.Lists.{All, upFrom}
-use Rattle.forms.specs.Bytes.{joined}
-use Rattle.forms.specs.Answer.{answerText}
 use Rattle.calculus.specs.declared.network.Network.{Network}
 use Rattle.calculus.specs.declared.state.Part.{Part}
 use Rattle.calculus.specs.declared.state.State.{State}
 use Rattle.model.specs.State.{load}
-use Rattle.model.specs.Calls.{Reply, Call, call, after, replies, givesNetwork, isOwn, own, repliesTo}
-use Rattle.model.specs.Noninterference.{Observed, observed, numberOf, numbersInAll, issued}
+use Rattle.model.specs.Calls.{Reply, linesText, Call, call, after, replies, givesNetwork, isOwn, own, repliesTo}
+use Rattle.model.specs.Noninterference.{Observed, observed, numberOf, numbersInLines, issued}
 use Rattle.model.proofs.Parts.{Numbered}
 use Rattle.model.proofs.Counted.{Good}
 use Rattle.model.proofs.Local.{Seen, seen, local, call-own}
@@ -86,7 +84,7 @@ own-plain u (c ∷ cs) p = either Plain (isOwn u c) (λ e. (p .0, own-plain u cs
 -- ---- seen, observed and issued
 
 abbrev observedIn : Seen → Observed
-observedIn x = record { lines = joined (map answerText (x .answers)); number = numberOf (x .refusal) }
+observedIn x = record { lines = linesText (x .lines); number = numberOf (x .refusal) }
 
 observed-seen : (u : ℕ) (l : List Reply) → map observed l ≡ map observedIn (map (seen u) l)
 observed-seen u [] = refl
@@ -94,12 +92,12 @@ observed-seen u (r ∷ l) = ap (λ (x : List Observed). observed r ∷ x) (obser
 
 unfoldable issuedIn : List Seen → List ℕ
 issuedIn [] = []
-issuedIn (x ∷ l) = numbersInAll (x .answers) ++ issuedIn l
+issuedIn (x ∷ l) = numbersInLines (x .lines) ++ issuedIn l
 
 issued-seen : (u : ℕ) (l : List Reply) → issued l ≡ issuedIn (map (seen u) l)
 unfolding issued issuedIn
 issued-seen u [] = refl
-issued-seen u (r ∷ l) = ap (λ (x : List ℕ). numbersInAll (r .answers) ++ x) (issued-seen u l)
+issued-seen u (r ∷ l) = ap (λ (x : List ℕ). numbersInLines (r .lines) ++ x) (issued-seen u l)
 
 local-numbers : (n : Network) (cs : List Call) (t : Part) → Issued t (localPart n t cs) (issuedIn (localSeen n t cs))
 unfolding localPart localSeen issuedIn

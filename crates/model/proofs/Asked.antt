@@ -1,10 +1,11 @@
 -- What a line asks, by cases: whose it is, and what it can change. Assumes nothing.
-use mathlib.Core.Path.{_≡_, refl}
+use mathlib.Core.Path.{_≡_, refl, _∙_}
 use mathlib.Core.Bool.{Bool, true, false, _&&_}
-use mathlib.Core.List.{List}
+use mathlib.Core.List.{List, [], _∷_}
 use mathlib.Core.Option.{Option, none, some}
 use Prim.Native.Nat.{ℕ}
 use lib.Dec.{eqb}
+use lib.ListN.{length, set, length-set}
 use Rattle.calculus.specs.Number.{isNode, within, isSession, isItem, isTag, senderOf}
 use Rattle.calculus.proofs.Tests.{both, never, either}
 use Rattle.calculus.specs.declared.answer.Refusal.{Refusal}
@@ -12,13 +13,13 @@ use Rattle.calculus.specs.declared.answer.Refusal.the-variants.{Unreadable, Ran
 use Rattle.calculus.specs.declared.network.Kind.{Kind}
 use Rattle.calculus.specs.declared.network.Network.{Network}
 use Rattle.calculus.specs.declared.request.Request as request
-use Rattle.calculus.specs.declared.request.Request.the-variants.{Node, Route, Open, Step, Send, Close, Show}
+use Rattle.calculus.specs.declared.request.Request.the-variants.{Node, Route, Open, Step, Send, Close, Show, Net}
 use Rattle.calculus.specs.declared.request.Sender.{Sender}
 use Rattle.calculus.specs.declared.state.Part.{Part}
 use Rattle.calculus.specs.declared.state.State.{State}
 use Rattle.forms.specs.declared.read.Parsed.the-variants.{Asks, Refused}
 use Rattle.forms.specs.declared.read.Reading.{Reading}
-use Rattle.forms.specs.Text.{Form, node, route, «open», step, send, close, show}
+use Rattle.forms.specs.Text.{Form, node, route, «open», step, send, close, show, net}
 use Rattle.forms.specs.Request.{rising, holding, noCredentials, inRange, plain, reading, asked}
 use Rattle.model.specs.Row.{stands}
 use Rattle.model.specs.Requests.{Move, refuse, openMove, stepMove, sendMove, closeMove, performed}
@@ -35,6 +36,7 @@ sessionIn (Step u k) = u .0
 sessionIn (Send u w tag) = u .0
 sessionIn (Close u) = u .0
 sessionIn Show = 0
+sessionIn Net = 0
 
 -- the move of a session's request; other requests have none
 abbrev pub ownMove : Network → (ℕ → ℕ → Bool) → request.Request → Part → Move
@@ -45,6 +47,7 @@ ownMove n standing (Step u k) t = stepMove n standing (k .0) t
 ownMove n standing (Send u w tag) t = sendMove w tag t
 ownMove n standing (Close u) t = closeMove t
 ownMove n standing Show t = refuse Unreadable
+ownMove n standing Net t = refuse Unreadable
 
 -- what holds of every request's move
 pub own-cases : (P : Move → Type 0) (n : Network) (standing : ℕ → ℕ → Bool) (q : request.Request) (t : Part) → P (refuse Unreadable)
@@ -57,6 +60,7 @@ own-cases P n standing (Step u k) t other opens steps sends closes = steps (k .0
 own-cases P n standing (Send u w tag) t other opens steps sends closes = sends w tag
 own-cases P n standing (Close u) t other opens steps sends closes = closes
 own-cases P n standing Show t other opens steps sends closes = other
+own-cases P n standing Net t other opens steps sends closes = other
 
 -- the move that session u's request makes
 abbrev pub moveIn : State → ℕ → request.Request → Move
@@ -72,6 +76,7 @@ requested-own s x y (Step u k) e = refl
 requested-own s x y (Send u w tag) e = refl
 requested-own s x y (Close u) e = refl
 requested-own s x y Show e = never e
+requested-own s x y Net e = never e
 
 -- a line that gives the network names no session
 pub not-own : (u : ℕ) (o : Option Form) → formGivesNetwork o ≡ true → formNames u o ≡ false
@@ -83,15 +88,25 @@ not-own u (some (step v k)) e = never e
 not-own u (some (send v w tag)) e = never e
 not-own u (some (close v)) e = never e
 not-own u (some show) e = refl
+not-own u (some net) e = refl
+
+-- a set of credentials
+abbrev pub IsSet : List Bool → Type 0
+IsSet s = length s ≡ 64
+
+holding-length : (ns : List ℕ) (s : List Bool) → length (holding s ns) ≡ length s
+holding-length [] s = refl
+holding-length (n ∷ ns) s = holding-length ns (set s n true) ∙ length-set s n true
 
 -- what a line of the form o, or of none, asks
 pub data Meaning (o : Option Form) : Reading → Type 0 where
   refuses : (r : Refusal) → IsWritten r → Meaning o (plain (Refused r))
-  givesNode : (a : ℕ) (k : Kind) (has needs : List Bool) → formGivesNetwork o ≡ true
+  givesNode : (a : ℕ) (k : Kind) (has needs : List Bool) → IsSet has → IsSet needs → formGivesNetwork o ≡ true
       → Meaning o (record { parsed = Asks (Node a k); has = has; needs = needs })
-  givesRoute : (a b n : ℕ) → isNode n ≡ true → formGivesNetwork o ≡ true → Meaning o (plain (Asks (Route a b n)))
+  givesRoute : (a b n : ℕ) → formGivesNetwork o ≡ true → Meaning o (plain (Asks (Route a b n)))
   ofSession : (q : request.Request) → isSession (sessionIn q) ≡ true → ((u : ℕ) → formNames u o ≡ eqb (sessionIn q) u) → Meaning o (plain (Asks q))
   shows : ((u : ℕ) → formNames u o ≡ false) → Meaning o (plain (Asks Show))
+  givesBack : ((u : ℕ) → formNames u o ≡ false) → Meaning o (plain (Asks Net))
 
 -- a request whose numbers are in range, or refusal 2
 ranged : {o : Option Form} (ok : Bool) (q : request.Request) → (ok ≡ true → Meaning o (plain (Asks q))) → Meaning o (plain (inRange ok q))
@@ -101,11 +116,10 @@ ranged false q f = refuses Range refl
 meaning-form : (f : Form) → Meaning (some f) (reading f)
 meaning-form (node a k has needs) =
     either (Meaning (some (node a k has needs))) (isNode a && (rising 0 has && rising 0 needs))
-    (λ e. givesNode a k (holding noCredentials has) (holding noCredentials needs) refl)
+    (λ e. givesNode a k _ _ (holding-length has noCredentials) (holding-length needs noCredentials) refl)
     (λ e. refuses Range refl)
 meaning-form (route a b n) =
-    ranged (isNode a && (isNode b && isNode n)) _
-    (λ e. givesRoute a b n (both (isNode b) (isNode n) (both (isNode a) (isNode b && isNode n) e .1) .1) refl)
+    ranged (isNode a && (isNode b && isNode n)) _ (λ e. givesRoute a b n refl)
 meaning-form («open» u c d) =
     ranged (isSession u && (isNode c && isNode d)) _ (λ e. ofSession (Open (record { 0 = u }) c d) (both (isSession u) _ e .0) (λ v. refl))
 meaning-form (step u k) =
@@ -115,6 +129,7 @@ meaning-form (send u w tag) =
     (λ e. ofSession (Send (record { 0 = u }) (senderOf w) tag) (both (isSession u) _ e .0) (λ v. refl))
 meaning-form (close u) = ranged (isSession u) _ (λ e. ofSession (Close (record { 0 = u })) e (λ v. refl))
 meaning-form show = shows (λ u. refl)
+meaning-form net = givesBack (λ u. refl)
 
 pub meaning : (o : Option Form) → Meaning o (asked o)
 meaning none = refuses Unreadable refl

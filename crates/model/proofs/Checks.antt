@@ -6,6 +6,7 @@ use Prim.Native.Nat.{ℕ, _≤_}
 use native.Mathlib.Omega.{arith}
 use lib.Dec.{eqb}
 use Rattle.calculus.specs.Answer.{refusalNumber}
+use Rattle.calculus.proofs.Tests.{either}
 use Rattle.calculus.specs.declared.answer.Refusal.{Refusal}
 use Rattle.model.specs.Requests.{Check, checked}
 

@@ -1,6 +1,7 @@
 -- Proofs of the promises: first of one session's part, then of states and lists of calls.
 pub mod Checks
 pub mod Lists
+pub mod Tables
 pub mod Parts
 pub mod Users
 pub mod Weights
@@ -9,6 +10,7 @@ pub mod SetUpWeights
 pub mod Balance
 pub mod Roomy
 pub mod Nodes
+pub mod Consistent
 pub mod Named
 pub mod Pending
 pub mod Sane
@@ -25,6 +27,7 @@ pub mod SetUp
 pub mod Refusals
 pub mod ShowLines
 pub mod Show
+pub mod GivenBack
 pub mod Listings
 pub mod Turns
 pub mod Batch

@@ -1,7 +1,7 @@
 -- What holds of every element of a list, and the front of a list after a run of stores. Assumes nothing.
 use mathlib.Core.Path.{_≡_, ap, _∙_}
 use mathlib.Core.List.{List, [], _∷_, _++_}
-use Prim.Native.Nat.{ℕ, zero, suc, _+_, _≤_}
+use Prim.Native.Nat.{ℕ, zero, suc, _+_, _≤_, _<_}
 use native.Mathlib.Omega.{arith}
 use lib.ListN.{length, getD, set, take, drop, replicate, length-append}
 use Rattle.model.specs.Lists.{All}
@@ -29,6 +29,15 @@ module _ {A : Type 0} (P : A → Type 0) where
   get-set (y ∷ l) zero (suc j) x d h k = h
   get-set (y ∷ l) (suc i) zero x d h k = h
   get-set (y ∷ l) (suc i) (suc j) x d h k = get-set l i j x d h k
+
+  -- of each place
+  pub all-of-getD : (l : List A) (d : A) → ((i : ℕ) → i < length l → P (getD l i d)) → All P l
+  all-of-getD [] d h = tt
+  all-of-getD (y ∷ l) d h = (h 0 (omega arith), all-of-getD l d (λ i w. h (suc i) (omega arith)))
+
+  pub all-at : (l : List A) (x : A) (m : List A) → All P (l ++ x ∷ m) → P x
+  all-at [] x m h = h .0
+  all-at (y ∷ l) x m h = all-at l x m (h .1)
 
   pub all-append : (l m : List A) → All P l → All P m → All P (l ++ m)
   all-append [] m h k = k

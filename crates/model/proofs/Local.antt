@@ -1,14 +1,13 @@
 -- What a session's call answers and leaves of its part is a function of the network, its part and the call. Assumes nothing.
 use mathlib.Core.Path.{_≡_, refl, sym, ap, _∙_}
 use mathlib.Core.Bool.{Bool, true, false, cond, _&&_}
-use mathlib.Core.List.{List, [], _∷_}
+use mathlib.Core.List.{[]}
 use mathlib.Core.Option.{Option, some}
 use Prim.Native.Nat.{ℕ}
 use native.Mathlib.Omega.{arith}
 use lib.Dec.{ltb}
 use borrow.Author.Tests.{lt-ltb, eqb-true}
 use Rattle.calculus.proofs.Tests.{never}
-use Rattle.calculus.specs.declared.answer.Answer.{Answer}
 use Rattle.calculus.specs.declared.answer.Answer.the-variants.{No}
 use Rattle.calculus.specs.declared.answer.Refusal.{Refusal}
 use Rattle.calculus.specs.declared.answer.Refusal.the-variants.{Short}
@@ -21,7 +20,7 @@ use Rattle.calculus.specs.declared.packet.Via.the-variants.{Peer}
 use Rattle.calculus.specs.declared.packet.Item.{Item}
 use Rattle.calculus.specs.declared.packet.Item.the-variants.{Free, Wire, Out, Up, In, Est, Auth, Grant, Ack, Dwait, Ewait}
 use Rattle.calculus.specs.declared.request.Request as request
-use Rattle.calculus.specs.declared.request.Request.the-variants.{Node, Route, Open, Step, Send, Close, Show}
+use Rattle.calculus.specs.declared.request.Request.the-variants.{Node, Route, Open, Step, Send, Close, Show, Net}
 use Rattle.calculus.specs.declared.state.Part.{Part}
 use Rattle.calculus.specs.declared.state.State.{State}
 use Rattle.forms.specs.declared.read.Parsed.{Parsed}
@@ -35,11 +34,11 @@ use Rattle.model.specs.Row.{held, admits, areNodes, usersOf, stands}
 use Rattle.model.specs.Rules.{writes, lost, upWith, upRule, headerStands, rule}
 use Rattle.model.specs.State.{load}
 use Rattle.model.specs.Requests.{Move, refuse, moved, stepAt, stepMove, performed}
-use Rattle.model.specs.Calls.{Reply, Call, call, answered, repliedTo, refusalIn, oneAnswer, short, formNames, isOwn}
+use Rattle.model.specs.Calls.{Lines, answer, report, Reply, Call, call, answered, repliedTo, refusalIn, oneAnswer, short, formNames, isOwn}
 use Rattle.model.proofs.Parts.{Numbered, load-whole}
 use Rattle.model.proofs.Users.{admits-some}
 use Rattle.model.proofs.Moves.{FairMove, fair-open, fair-step, fair-send, fair-close}
-use Rattle.model.proofs.Asked.{sessionIn, ownMove, own-cases, moveIn, requested-own, not-own, Meaning, refuses, givesNode, givesRoute, ofSession, shows, meaning}
+use Rattle.model.proofs.Asked.{sessionIn, ownMove, own-cases, moveIn, requested-own, not-own, Meaning, refuses, givesNode, givesRoute, ofSession, shows, givesBack, meaning}
 use Rattle.model.proofs.Counted.{Good, users-least, stored-own, stored-others, stored-good}
 
 -- ---- what stands
@@ -83,6 +82,7 @@ module _ (n : Network) (standing : ℕ → ℕ → Bool) (t : Part) (h : (a q : 
   move-same (Send u w tag) = refl
   move-same (Close u) = refl
   move-same Show = refl
+  move-same Net = refl
 
 -- the association of an in row stands
 in-row-stands : (s : State) → Good s → (u : ℕ) → Numbered u → (a q : ℕ) → admits (held (load s u)) a q ≡ true
@@ -102,18 +102,18 @@ fair-own s g u hu q =
 
 -- ---- a session's own reply
 
--- what the session sees of a reply: its part after the call, the answers, the refusal
+-- what the session sees of a reply: its part after the call, the lines, the refusal
 pub record Seen : Type 0 where
   pub part : Part
-  pub answers : List Answer
+  pub lines : Lines
   pub refusal : Option Refusal
 
 abbrev pub seen : ℕ → Reply → Seen
-seen u r = record { part = load (r .state) u; answers = r .answers; refusal = r .refusal }
+seen u r = record { part = load (r .state) u; lines = r .lines; refusal = r .refusal }
 
 abbrev pub seenMove : Part → Move → Seen
-seenMove t (refuse r) = record { part = t; answers = No r ∷ []; refusal = some r }
-seenMove t (moved a t′ c) = record { part = t′; answers = a ∷ []; refusal = refusalIn a }
+seenMove t (refuse r) = record { part = t; lines = answer (No r); refusal = some r }
+seenMove t (moved a t′ c) = record { part = t′; lines = answer a; refusal = refusalIn a }
 
 abbrev pub seenParsed : Network → Part → Parsed → Seen
 seenParsed n t (Asks q) = seenMove t (ownMove n areNodes q t)
@@ -122,7 +122,7 @@ seenParsed n t (Refused r) = seenMove t (refuse r)
 -- the call by itself: it reads the network and the session's part, and nothing else
 unfoldable pub local : Network → Part → Call → Seen
 local n t c =
-    cond (ltb (c .size) 65536) (record { part = t; answers = []; refusal = some Short })
+    cond (ltb (c .size) 65536) (record { part = t; lines = report []; refusal = some Short })
     (seenParsed n t (asked (read (c .line)) .parsed))
 
 module _ (s : State) (g : Good s) (u : ℕ) (hu : Numbered u) where
@@ -150,12 +150,13 @@ module _ (s : State) (g : Good s) (u : ℕ) (hu : Numbered u) where
   asked-seen : (o : Option Form) → formNames u o ≡ true → (r : Reading) → Meaning o r
       → seen u (repliedTo s r) ≡ seenParsed (s .network) (load s u) (r .parsed)
   asked-seen o e r (refuses x w) = refl
-  asked-seen o e r (givesNode a k has needs n) = never (sym (not-own u o n) ∙ e)
-  asked-seen o e r (givesRoute a b next i n) = never (sym (not-own u o n) ∙ e)
+  asked-seen o e r (givesNode a k has needs i j n) = never (sym (not-own u o n) ∙ e)
+  asked-seen o e r (givesRoute a b next n) = never (sym (not-own u o n) ∙ e)
   asked-seen o e r (ofSession q i h) =
       let w : sessionIn q ≡ u = eqb-true (sessionIn q) u (sym (h u) ∙ e) in
       ap (seen u) (requested-own s _ _ q i ∙ ap (λ (v : ℕ). oneAnswer (performed s v (moveIn s v q))) w) ∙ own-seen q
   asked-seen o e r (shows h) = never (sym (h u) ∙ e)
+  asked-seen o e r (givesBack h) = never (sym (h u) ∙ e)
 
   pub call-own : (c : Call) → isOwn u c ≡ true → seen u (call s c) ≡ local (s .network) (load s u) c
   unfolding answered local

@@ -35,8 +35,9 @@ use Rattle.model.specs.Rules.{discovers, lastPoint, unprotected, onward,
 use Rattle.model.specs.State.{addedRows}
 use Rattle.model.specs.SetUp.{isDisc}
 use Rattle.model.specs.Lists.{fold, All}
+use Rattle.model.specs.GivenBack.{Consistent}
 use Rattle.model.proofs.Users.{are-nodes}
-use Rattle.model.proofs.Nodes.{Node, LeadsToNode, Routed, routed}
+use Rattle.model.proofs.Nodes.{Node, LeadsToNode, routed}
 
 -- ---- what an item may name, v being the server
 
@@ -198,7 +199,7 @@ ack-named s a c d h = (
   tt,
 )
 
-module _ (n : Network) (hn : Routed n) (standing : ℕ → ℕ → Bool) (t : Part) where
+module _ (n : Network) (hn : Consistent n) (standing : ℕ → ℕ → Bool) (t : Part) where
   pub rule-named : All RowNamed (held t) → Node (t .session .client) → Node (t .session .server) → (i : Item) → Named (t .session .server) i
       → EffectNamed (t .session .server) (rule n standing t i)
   unfolding rule upRule estRule authRule

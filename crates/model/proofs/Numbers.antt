@@ -21,7 +21,7 @@ use Rattle.model.specs.Row.{areNodes}
 use Rattle.model.specs.State.{answerOf, writtenCount, applied, sessionAfter}
 use Rattle.model.specs.Requests.{Move, refuse, opening, openMove, stepped, stepAt, stepMove, sending, sendMove, closing, closeMove}
 use Rattle.model.specs.Calls.{Call}
-use Rattle.model.specs.Noninterference.{numbersInAll}
+use Rattle.model.specs.Noninterference.{numbersIn, numbersInLines}
 use Rattle.model.proofs.Checks.{checked-either}
 use Rattle.model.proofs.Asked.{ownMove, own-cases}
 use Rattle.model.proofs.Local.{Seen, seenMove, seenParsed, local}
@@ -41,7 +41,7 @@ pub record Issued (t t′ : Part) (l : List ℕ) : Type 0 where
   pub carried : l ≡ upFrom (t .session .last .0) many
 
 abbrev Issues : Part → Seen → Type 0
-Issues t x = Issued t (x .part) (numbersInAll (x .answers))
+Issues t x = Issued t (x .part) (numbersInLines (x .lines))
 
 abbrev IssuesMove : Part → Move → Type 0
 IssuesMove t m = Issues t (seenMove t m)
@@ -51,7 +51,7 @@ unfolding upFrom
 issued-none t = record { many = 0; last = omega arith; carried = refl }
 
 -- the answer of an outcome carries the numbers of the items written
-answer-numbers : (n : ℕ) (o : Outcome) → numbersInAll (answerOf n o ∷ []) ≡ upFrom n (writtenCount o)
+answer-numbers : (n : ℕ) (o : Outcome) → numbersIn (answerOf n o) ≡ upFrom n (writtenCount o)
 unfolding upFrom
 answer-numbers n (Wrote i) = refl
 answer-numbers n (WroteTwo i j) = let e : n + 2 ≡ n + 1 + 1 = omega arith in rw e

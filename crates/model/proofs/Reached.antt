@@ -14,7 +14,8 @@ use Rattle.model.specs.State.{fresh, load}
 use Rattle.model.specs.Requests.{Move, refuse, moved, performed}
 use Rattle.model.specs.Calls.{Call, call, after}
 use Rattle.model.proofs.Parts.{Numbered}
-use Rattle.model.proofs.Nodes.{Routed, routed-fresh, routed-node, routed-route}
+use Rattle.model.specs.GivenBack.{Consistent}
+use Rattle.model.proofs.Consistent.{consistent-fresh, consistent-node, consistent-route}
 use Rattle.model.proofs.Moves.{FairMove}
 use Rattle.model.proofs.Sane.{Sane, SaneMove, sane-empty, sane-open, sane-step, sane-send, sane-close}
 use Rattle.model.proofs.Asked.{sessionIn, own-cases, moveIn}
@@ -25,12 +26,12 @@ use Rattle.model.proofs.Fresh.{load-fresh, fresh-good}
 
 pub record Sound (s : State) : Type 0 where
   pub good : Good s
-  pub routed : Routed (s .network)
+  pub consistent : Consistent (s .network)
   pub sane : (u : ℕ) → Numbered u → Sane (load s u)
 
-given-routed : (n n′ : Network) → Given n n′ → Routed n → Routed n′
-given-routed n n′ (byNode a k has needs) h = routed-node n a k has needs h
-given-routed n n′ (byRoute a b next e) h = routed-route n a b next e h
+consistent-given : (n n′ : Network) → Given n n′ → Consistent n → Consistent n′
+consistent-given n n′ (byNode a k has needs i j) h = consistent-node n a k has needs i j h
+consistent-given n n′ (byRoute a b next e f) h = consistent-route n a b next e f h
 
 sane-after : (t : Part) (m : Move) → Sane t → SaneMove m → Sane (seenMove t m .part)
 sane-after t (refuse r) h k = h
@@ -42,13 +43,13 @@ module _ (s : State) (h : Sound s) where
       let t = load s u in
       let k = h .sane u hu in
       own-cases SaneMove (s .network) (stands (s .users) false) q t tt
-      (sane-open t k _) (sane-step t k _ (h .routed) _) (sane-send t k) (sane-close t k)
+      (sane-open t k _) (sane-step t k _ (h .consistent) _) (sane-send t k) (sane-close t k)
 
   turn-sound : (u : ℕ) → Numbered u → (m : Move) → FairMove (load s u) m → SaneMove m → Sound (performed s u m .state)
   turn-sound u hu m f k =
       record {
         good = performed-good s (h .good) u hu m f;
-        routed = rw (performed-network s u m) (h .routed);
+        consistent = rw (performed-network s u m) (h .consistent);
         sane = λ v hv. part v hv (ℕ-discrete v u);
       }
     where
@@ -63,7 +64,7 @@ module _ (s : State) (h : Sound s) where
       (λ e n g.
       record {
         good = given-good s n (h .good);
-        routed = given-routed (s .network) n g (h .routed);
+        consistent = consistent-given (s .network) n g (h .consistent);
         sane = λ u hu. rw (given-load s n u) (h .sane u hu);
       })
       (λ q i o.
@@ -78,7 +79,7 @@ after-sound (c ∷ cs) s h = after-sound cs (call s c .state) (call-sound s h c)
 
 fresh-sound : Sound fresh
 fresh-sound =
-    record { good = fresh-good; routed = routed-fresh; sane = λ u hu. rw (load-fresh u hu) (sane-empty 0 (omega arith)) }
+    record { good = fresh-good; consistent = consistent-fresh; sane = λ u hu. rw (load-fresh u hu) (sane-empty 0 (omega arith)) }
 
 pub reached : (cs : List Call) → Sound (after fresh cs)
 reached cs = after-sound cs fresh fresh-sound

@@ -7,7 +7,6 @@ use Prim.Native.Nat.{ℕ}
 use lib.Dec.{ltb}
 use Rattle.calculus.proofs.Tests.{never, either}
 use Rattle.calculus.specs.declared.answer.Answer.{Answer}
-use Rattle.calculus.specs.declared.answer.Answer.the-variants.{Ok, Made, MadeTwo, Lost, Denied, Opened, Delivered, Closed, No, Assoc, End}
 use Rattle.calculus.specs.declared.answer.Refusal.{Refusal}
 use Rattle.calculus.specs.declared.answer.Refusal.the-variants.{Short}
 use Rattle.calculus.specs.declared.effect.Outcome.{Outcome}
@@ -25,32 +24,19 @@ use Rattle.forms.specs.Request.{asked}
 use Rattle.model.specs.State.{answerOf}
 use Rattle.model.specs.Requests.{refused, nodeTurn, routeTurn, Move, refuse, moved, openMove, stepped, stepAt, stepMove, sendMove, closeMove, performed}
 use Rattle.model.specs.Row.{stands}
-use Rattle.model.specs.Calls.{answered, requested, repliedTo, refusalIn, oneAnswer}
-use Rattle.model.specs.Refusals.{isOneLine, CanReply, refusedWith, answeredWith, shownWith, Refusals}
+use Rattle.model.specs.Calls.{Lines, answered, requested, repliedTo, refusalIn, oneAnswer}
+use Rattle.model.specs.Refusals.{CanReply, refusedWith, answeredWith, shownWith, givenBackWith, Refusals}
 use Rattle.model.proofs.Checks.{IsWritten, checked-written}
-use Rattle.model.proofs.Asked.{ownMove, own-cases, requested-own, Meaning, refuses, givesNode, givesRoute, ofSession, shows, meaning}
+use Rattle.model.proofs.Asked.{ownMove, own-cases, requested-own, Meaning, refuses, givesNode, givesRoute, ofSession, shows, givesBack, meaning}
 
 -- ---- one line
 
-one-line : (a : Answer) → isOneLine a ≡ true → refusalIn a ≡ none
-one-line Ok e = refl
-one-line (Made n) e = refl
-one-line (MadeTwo n m) e = refl
-one-line (Lost l) e = refl
-one-line Denied e = refl
-one-line Opened e = refl
-one-line (Delivered tag) e = refl
-one-line Closed e = refl
-one-line (No r) e = never e
-one-line (Assoc a out q spi users) e = refl
-one-line End e = refl
-
-answer-replies : (s : State) (t : Turn) → isOneLine (t .answer) ≡ true → CanReply s (oneAnswer t)
-answer-replies s t e = rw (one-line (t .answer) e) (answeredWith (t .state) (t .answer) e)
+answer-replies : (s : State) (t : Turn) → refusalIn (t .answer) ≡ none → CanReply s (oneAnswer t)
+answer-replies s t e = rw e (answeredWith (t .state) (t .answer) e)
 
 refusal-replies : (s : State) (r : Refusal) → IsWritten r → CanReply s (oneAnswer (refused s r))
 refusal-replies s r w =
-    subst (λ (l : List Answer). CanReply s (record { state = s; answers = l; refusal = some r })) (rw w) (refusedWith r)
+    subst (λ (l : Lines). CanReply s (record { state = s; lines = l; refusal = some r })) (rw w) (refusedWith r)
 
 abbrev Says : State → Turn → Type 0
 Says s t = CanReply s (oneAnswer t)
@@ -60,9 +46,9 @@ Says s t = CanReply s (oneAnswer t)
 -- a refusal that is written, or an answer of one line
 abbrev Answers : Move → Type 0
 Answers (refuse r) = IsWritten r
-Answers (moved a t c) = isOneLine a ≡ true
+Answers (moved a t c) = refusalIn a ≡ none
 
-outcome-answers : (n : ℕ) (o : Outcome) → isOneLine (answerOf n o) ≡ true
+outcome-answers : (n : ℕ) (o : Outcome) → refusalIn (answerOf n o) ≡ none
 outcome-answers n (outcome.Wrote i) = refl
 outcome-answers n (outcome.WroteTwo i j) = refl
 outcome-answers n (outcome.Lost k) = refl
@@ -93,13 +79,14 @@ performed-says s u (moved a t c) e = answer-replies s _ e
 asked-replies : (s : State) (o : Option Form) (r : Reading) → Meaning o r → CanReply s (repliedTo s r)
 unfolding requested nodeTurn routeTurn
 asked-replies s o r (refuses x w) = refusal-replies s x w
-asked-replies s o r (givesNode a k has needs n) =
+asked-replies s o r (givesNode a k has needs i j n) =
     checked-written (Says s) (refused s) (refusal-replies s) _ (refl, (refl, tt)) (answer-replies s _ refl)
-asked-replies s o r (givesRoute a b next i n) =
+asked-replies s o r (givesRoute a b next n) =
     checked-written (Says s) (refused s) (refusal-replies s) _ (refl, (refl, (refl, (refl, tt)))) (answer-replies s _ refl)
 asked-replies s o r (ofSession q i h) =
     subst (CanReply s) (sym (requested-own s _ _ q i)) (performed-says s _ _ (move-answers (s .network) (stands (s .users) false) q _))
 asked-replies s o r (shows h) = shownWith
+asked-replies s o r (givesBack h) = givenBackWith
 
 pub refusals : Refusals
 unfolding answered

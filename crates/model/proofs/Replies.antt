@@ -1,12 +1,12 @@
 -- What a call can leave of a state, by cases. Assumes nothing.
 use mathlib.Core.Path.{_≡_, refl, sym, subst, _∙_}
-use mathlib.Core.Bool.{Bool, true, false, not, _&&_}
+use mathlib.Core.Bool.{Bool, true, false}
 use mathlib.Core.List.{List}
 use Prim.Native.Nat.{ℕ}
 use native.Mathlib.Omega.{arith}
 use lib.Dec.{ltb, eqb}
 use borrow.Author.Tests.{eqb-false, not-false}
-use Rattle.calculus.specs.Number.{isNode, isSession}
+use Rattle.calculus.specs.Number.{isSession}
 use Rattle.calculus.proofs.Tests.{within-bounds, both, never, either}
 use Rattle.calculus.specs.declared.network.Kind.{Kind}
 use Rattle.calculus.specs.declared.network.Network.{Network}
@@ -16,13 +16,12 @@ use Rattle.calculus.specs.declared.state.Turn.{Turn}
 use Rattle.forms.specs.declared.read.Reading.{Reading}
 use Rattle.forms.specs.Read.{read}
 use Rattle.forms.specs.Request.{asked}
-use Rattle.model.specs.Network.{given}
 use Rattle.model.specs.State.{load, store}
-use Rattle.model.specs.Requests.{refused, accepted, withNode, withRoute, nodeTurn, routeTurn, Move, refuse, moved, changed, performed}
+use Rattle.model.specs.Requests.{refused, accepted, withNode, withRoute, nodesGiven, leadsBack, nodeTurn, routeTurn, Move, refuse, moved, changed, performed}
 use Rattle.model.specs.Calls.{Reply, Call, call, answered, requested, repliedTo, givesNetwork, isOwn}
 use Rattle.model.proofs.Checks.{checked-either}
 use Rattle.model.proofs.Parts.{Numbered}
-use Rattle.model.proofs.Asked.{sessionIn, moveIn, requested-own, Meaning, refuses, givesNode, givesRoute, ofSession, shows, meaning}
+use Rattle.model.proofs.Asked.{sessionIn, moveIn, requested-own, IsSet, Meaning, refuses, givesNode, givesRoute, ofSession, shows, givesBack, meaning}
 use Rattle.model.proofs.Counted.{Good, naming-others}
 use Rattle.model.proofs.Local.{fair-own, performed-good, performed-others}
 
@@ -31,13 +30,8 @@ numbered u e = let h = within-bounds 1 8 u e in record { least = h .0; most = h 
 
 -- the networks that a node or route call can leave of n
 pub data Given (n : Network) : Network → Type 0 where
-  byNode : (a : ℕ) (k : Kind) (has needs : List Bool) → Given n (withNode n a k has needs)
-  byRoute : (a b next : ℕ) → given n next ≡ true → Given n (withRoute n a b next)
-
--- a route that is accepted has a next node that was given
-route-given : (n : Network) (a b next : ℕ) → not (given n a && (given n b && given n next)) ≡ false → given n next ≡ true
-route-given n a b next e =
-    both (given n b) (given n next) (both (given n a) (given n b && given n next) (not-false (given n a && (given n b && given n next)) e) .1) .1
+  byNode : (a : ℕ) (k : Kind) (has needs : List Bool) → IsSet has → IsSet needs → Given n (withNode n a k has needs)
+  byRoute : (a b next : ℕ) → nodesGiven n a b next ≡ true → leadsBack a b next ≡ false → Given n (withRoute n a b next)
 
 -- a call leaves the state, a network that it gives, or what a session's move leaves
 module _ (P : State → Type 0) (s : State) (c : Call) (same : P s)
@@ -47,13 +41,14 @@ module _ (P : State → Type 0) (s : State) (c : Call) (same : P s)
   asked-cases : (r : Reading) → Meaning (read (c .line)) r → P (repliedTo s r .state)
   unfolding requested nodeTurn routeTurn
   asked-cases r (refuses x w) = same
-  asked-cases r (givesNode a k has needs n) =
-      checked-either (λ (t : Turn). P (t .state)) (refused s) (λ x. same) _ (λ e. gives n _ (byNode a k has needs))
-  asked-cases r (givesRoute a b next i n) =
+  asked-cases r (givesNode a k has needs i j n) =
+      checked-either (λ (t : Turn). P (t .state)) (refused s) (λ x. same) _ (λ e. gives n _ (byNode a k has needs i j))
+  asked-cases r (givesRoute a b next n) =
       checked-either (λ (t : Turn). P (t .state)) (refused s) (λ x. same) _
-      (λ e. gives n _ (byRoute a b next (route-given (s .network) a b next (e .1 .0))))
+      (λ e. gives n _ (byRoute a b next (not-false (nodesGiven (s .network) a b next) (e .1 .0)) (e .1 .1 .0)))
   asked-cases r (ofSession q i h) = subst (λ (x : Reply). P (x .state)) (sym (requested-own s _ _ q i)) (moves q i h)
   asked-cases r (shows h) = same
+  asked-cases r (givesBack h) = same
 
   pub call-cases : P (call s c .state)
   unfolding answered

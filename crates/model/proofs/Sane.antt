@@ -26,12 +26,13 @@ use Rattle.model.specs.Item.{isFree, isWait, isThatWait, vacant, isDataI
 use Rattle.model.specs.Row.{held}
 use Rattle.model.specs.Rules.{rule}
 use Rattle.model.specs.State.{blankSlot, isNumbered, useUp, putItem, written, writtenCount, stageAfter, addedRows, placed, itemsAfter, sessionAfter, applied}
+use Rattle.model.specs.GivenBack.{Consistent}
 use Rattle.model.specs.Requests.{Move, refuse, moved, isUnused, unused, spent, nextNumber, withItem, opening, openMove, stepped, stepAt, stepMove, sending, sendMove, closing, closeMove}
 use Rattle.model.specs.SetUp.{isPending, itemAt}
 use Rattle.model.proofs.Checks.{checked-either}
 use Rattle.model.specs.Lists.{place, All}
 use Rattle.model.proofs.Lists.{all-set, all-get, all-append, all-take, all-replicate}
-use Rattle.model.proofs.Nodes.{Node, given-node, Routed}
+use Rattle.model.proofs.Nodes.{Node, given-node}
 use Rattle.model.proofs.Weights.{count, weigh, counted, free-is}
 use Rattle.model.proofs.SetUpWeights.{uses, space, carries, due, spare, pending}
 use Rattle.model.proofs.Balance.{rule-law}
@@ -124,7 +125,7 @@ written-few (Delivered tag) = omega arith
 module _ (t : Part) (h : Sane t) where
   -- ---- step
 
-  module _ (n : Network) (hn : Routed n) (standing : ℕ → ℕ → Bool) where
+  module _ (n : Network) (hn : Consistent n) (standing : ℕ → ℕ → Bool) where
     sane-applied : (at : ℕ) → unused t ≡ false → leb 16 at ≡ false → isWait (itemAt (t .items) at) ≡ false → spent t ≡ false
         → Sane (applied t at (rule n standing t (itemAt (t .items) at)))
     unfolding applied sessionAfter

@@ -164,6 +164,6 @@ holds s sound u hu =
 pub set-ups : SetUps
 set-ups =
     record {
-      network = λ cs. network-holds (after fresh cs .network) (reached cs .routed);
+      network = λ cs. network-holds (after fresh cs .network) (reached cs .consistent);
       holds = λ cs u e. holds (after fresh cs) (reached cs) u (numbered u e);
     }

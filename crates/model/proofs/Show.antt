@@ -1,4 +1,4 @@
--- Show: one line for each standing association, no other. Assumes nothing.
+-- Show: each standing association once, no other. Assumes nothing.
 use mathlib.Core.Path.{_≡_, refl, sym, ap, _∙_}
 use mathlib.Core.Bool.{Bool, true, false, cond, _&&_, and-false}
 use mathlib.Core.List.{List, [], _∷_, _++_, append-nil}
@@ -8,78 +8,69 @@ use native.Mathlib.Omega.{arith}
 use lib.Dec.{ltb, eqb}
 use lib.ListN.{length, getD, take, drop}
 use lib.Seq.{getD-take, getD-drop}
-use Rattle.calculus.proofs.Tests.{both, never, either}
-use Rattle.calculus.specs.declared.answer.Answer.{Answer}
-use Rattle.calculus.specs.declared.answer.Answer.the-variants.{Assoc, End}
+use Rattle.calculus.proofs.Tests.{both, never}
+use Rattle.calculus.proofs.Table.{perhaps}
+use Rattle.calculus.specs.Table.{entriesFrom, onlyIf}
+use Rattle.calculus.specs.declared.answer.Association.{Association}
 use Rattle.model.specs.Row.{sameWay, spiOf, usersPlace, areNodes, usersOf}
-use Rattle.model.specs.Requests.{peerLines, nodeLines, shown}
-use Rattle.model.specs.Show.{isLineOf, linesFor, isShown, Show}
+use Rattle.model.specs.Requests.{association, associations, shown}
+use Rattle.model.specs.Show.{isFor, allFor, Show}
 use borrow.Author.Tests.{eqb-true, le-leb, ne-eqb}
-use Rattle.model.proofs.ShowLines.{ins, outs, peers-all, nodes-all, shown-fits}
+use Rattle.model.proofs.ShowLines.{ins, outs, withUsers, peers-all, nodes-all, shown-fits}
 use Rattle.model.specs.Lists.{All}
 use Rattle.model.proofs.Lists.{all-of}
 use Rattle.model.proofs.Users.{same-itself, node-bounds}
 
--- ---- associations, then `(end)`
+-- ---- one association
 
-leads : (l m : List Answer) → All (λ x. (y : List Answer) → isShown (x ∷ y) ≡ isShown y) l → isShown (l ++ m) ≡ isShown m
-leads [] m h = refl
-leads (x ∷ l) m h = h .0 (l ++ m) ∙ leads l m (h .1)
-
-shown-closed : (l : List ℕ) → isShown (shown l) ≡ true
-unfolding shown
-shown-closed l = leads (nodeLines 32 1 l) (End ∷ []) (nodes-all _ (λ n. Unit) 32 1 l (all-of _ (λ n. tt) l) (λ out a q n i j v w u y. refl))
-
--- ---- the lines of one association
-
-lines-append : (out : Bool) (a q : ℕ) (l m : List Answer) → linesFor out a q (l ++ m) ≡ linesFor out a q l ++ linesFor out a q m
-lines-append out a q [] m = refl
-lines-append out a q (x ∷ l) m = go (isLineOf out a q x) (lines-append out a q l m)
+for-append : (out : Bool) (a q : ℕ) (l m : List Association) → allFor out a q (l ++ m) ≡ allFor out a q l ++ allFor out a q m
+for-append out a q [] m = refl
+for-append out a q (x ∷ l) m = go (isFor out a q x) (for-append out a q l m)
   where
-    go : (b : Bool) → linesFor out a q (l ++ m) ≡ linesFor out a q l ++ linesFor out a q m
-        → cond b (x ∷ linesFor out a q (l ++ m)) (linesFor out a q (l ++ m))
-        ≡ cond b (x ∷ linesFor out a q l) (linesFor out a q l) ++ linesFor out a q m
-    go true h = ap (λ (y : List Answer). x ∷ y) h
+    go : (b : Bool) → allFor out a q (l ++ m) ≡ allFor out a q l ++ allFor out a q m
+        → cond b (x ∷ allFor out a q (l ++ m)) (allFor out a q (l ++ m))
+        ≡ cond b (x ∷ allFor out a q l) (allFor out a q l) ++ allFor out a q m
+    go true h = ap (λ (y : List Association). x ∷ y) h
     go false h = h
 
 -- the line of an association with n users, if it stands
-abbrev lineWith : Bool → ℕ → ℕ → ℕ → List Answer
-lineWith out a q n = cond (ltb 0 n) (Assoc a out q (spiOf out a q) n ∷ []) []
+abbrev ifStanding : Bool → ℕ → ℕ → ℕ → List Association
+ifStanding out a q n = onlyIf (ltb 0 n) (withUsers out a q n)
 
 module _ (out : Bool) (a q : ℕ) where
-  abbrev Apart : List Answer → Type 0
-  Apart l = linesFor out a q l ≡ []
+  abbrev Apart : List Association → Type 0
+  Apart l = allFor out a q l ≡ []
 
   node-lines : (k b : ℕ) (l : List ℕ)
-      → linesFor out a q (nodeLines (suc k) b l)
-      ≡ linesFor out a q (ins b l) ++ (linesFor out a q (outs b l) ++ linesFor out a q (nodeLines k (b + 1) (drop 64 l)))
-  unfolding nodeLines
+      → allFor out a q (associations (suc k) b l)
+      ≡ allFor out a q (ins b l) ++ (allFor out a q (outs b l) ++ allFor out a q (associations k (b + 1) (drop 64 l)))
+  unfolding associations
   node-lines k b l =
-      lines-append out a q (ins b l) (outs b l ++ nodeLines k (b + 1) (drop 64 l))
-      ∙ ap (λ (x : List Answer). linesFor out a q (ins b l) ++ x) (lines-append out a q (outs b l) (nodeLines k (b + 1) (drop 64 l)))
+      for-append out a q (ins b l) (outs b l ++ associations k (b + 1) (drop 64 l))
+      ∙ ap (λ (x : List Association). allFor out a q (ins b l) ++ x) (for-append out a q (outs b l) (associations k (b + 1) (drop 64 l)))
 
   -- ---- the lines of others
 
-  abbrev Other : Answer → Type 0
-  Other x = isLineOf out a q x ≡ false
+  abbrev Other : Association → Type 0
+  Other x = isFor out a q x ≡ false
 
-  all-apart : (l : List Answer) → All Other l → Apart l
+  all-apart : (l : List Association) → All Other l → Apart l
   all-apart [] h = refl
   all-apart (x ∷ l) h = rw (h .0) (all-apart l (h .1))
 
   peers-apart : (o : Bool) (b p : ℕ) (l : List ℕ) → ((r : ℕ) → p ≤ r → r < p + length l → (sameWay o out && (eqb b a && eqb r q)) ≡ false)
-      → Apart (peerLines o b p l)
+      → Apart (entriesFrom (association o b) p l)
   peers-apart o b p l h =
-      all-apart (peerLines o b p l) (peers-all Other (λ n. Unit) o b p l (all-of _ (λ n. tt) l) (λ r n i j u. h r i j))
+      all-apart (entriesFrom (association o b) p l) (peers-all Other (λ n. Unit) o b p l (all-of _ (λ n. tt) l) (λ r n i j u. h r i j))
 
-  node-apart : (o : Bool) (b p : ℕ) (l : List ℕ) → (b ≡ a → ⊥) → Apart (peerLines o b p l)
+  node-apart : (o : Bool) (b p : ℕ) (l : List ℕ) → (b ≡ a → ⊥) → Apart (entriesFrom (association o b) p l)
   node-apart o b p l ne = peers-apart o b p l (λ r i j. rw (ne-eqb b a ne, and-false))
 
-  nodes-apart : (k b : ℕ) (l : List ℕ) → ((x p : ℕ) → b ≤ x → x < b + k → 1 ≤ p → p ≤ 32 → (eqb x a && eqb p q) ≡ false) → Apart (nodeLines k b l)
+  nodes-apart : (k b : ℕ) (l : List ℕ) → ((x p : ℕ) → b ≤ x → x < b + k → 1 ≤ p → p ≤ 32 → (eqb x a && eqb p q) ≡ false) → Apart (associations k b l)
   nodes-apart k b l h =
-      all-apart (nodeLines k b l)
+      all-apart (associations k b l)
       (nodes-all Other (λ n. Unit) k b l (all-of _ (λ n. tt) l)
-      (λ o x p n i j v w u. rw (h x p i j v w, and-false)))
+      (λ o x p n i j v w u. rw (h x p i j v w) (and-false (sameWay o out))))
 
   -- ---- its own line
 
@@ -87,31 +78,31 @@ module _ (out : Bool) (a q : ℕ) where
   peer-apart : (r : ℕ) → (r ≡ q → ⊥) → (sameWay out out && (eqb a a && eqb r q)) ≡ false
   peer-apart r ne = rw (ne-eqb r q ne, and-false, and-false)
 
-  head-own : (n : ℕ) (rest : List Answer) → Apart rest
-      → linesFor out a q (cond (ltb 0 n) (Assoc a out q (spiOf out a q) n ∷ rest) rest) ≡ lineWith out a q n
+  head-own : (n : ℕ) (rest : List Association) → Apart rest
+      → allFor out a q (onlyIf (ltb 0 n) (withUsers out a q n) ++ rest) ≡ ifStanding out a q n
   head-own n rest h = go (ltb 0 n)
     where
-      go : (b : Bool) → linesFor out a q (cond b (Assoc a out q (spiOf out a q) n ∷ rest) rest) ≡ cond b (Assoc a out q (spiOf out a q) n ∷ []) []
-      go true = rw (same-itself out a q) (ap (λ (x : List Answer). Assoc a out q (spiOf out a q) n ∷ x) h)
+      go : (b : Bool) → allFor out a q (onlyIf b (withUsers out a q n) ++ rest) ≡ onlyIf b (withUsers out a q n)
+      go true = rw (same-itself out a q) (ap (λ (x : List Association). withUsers out a q n ∷ x) h)
       go false = h
 
-  head-other : (p n : ℕ) (rest : List Answer) → (p ≡ q → ⊥)
-      → linesFor out a q (cond (ltb 0 n) (Assoc a out p (spiOf out a p) n ∷ rest) rest) ≡ linesFor out a q rest
+  head-other : (p n : ℕ) (rest : List Association) → (p ≡ q → ⊥)
+      → allFor out a q (onlyIf (ltb 0 n) (withUsers out a p n) ++ rest) ≡ allFor out a q rest
   head-other p n rest ne =
-      either (λ (x : List Answer). linesFor out a q x ≡ linesFor out a q rest) (ltb 0 n) (λ e. rw (peer-apart p ne)) (λ e. refl)
+      perhaps (λ (x : List Association). allFor out a q x ≡ allFor out a q rest) (ltb 0 n) (λ e. rw (peer-apart p ne)) (λ e. refl)
 
-  peers-own : (j p : ℕ) (l : List ℕ) → p + j ≡ q → linesFor out a q (peerLines out a p l) ≡ lineWith out a q (getD l j 0)
-  unfolding peerLines
+  peers-own : (j p : ℕ) (l : List ℕ) → p + j ≡ q → allFor out a q (entriesFrom (association out a) p l) ≡ ifStanding out a q (getD l j 0)
+  unfolding entriesFrom
   peers-own j p [] e = refl
   peers-own zero p (n ∷ l) e =
       let w : p ≡ q = omega arith in
-      rw w (head-own n (peerLines out a (q + 1) l) (peers-apart out a (q + 1) l (λ r i j. peer-apart r (λ z. omega arith))))
-  peers-own (suc j) p (n ∷ l) e = head-other p n (peerLines out a (p + 1) l) (λ z. omega arith) ∙ peers-own j (p + 1) l (omega arith)
+      rw w (head-own n (entriesFrom (association out a) (q + 1) l) (peers-apart out a (q + 1) l (λ r i j. peer-apart r (λ z. omega arith))))
+  peers-own (suc j) p (n ∷ l) e = head-other p n (entriesFrom (association out a) (p + 1) l) (λ z. omega arith) ∙ peers-own j (p + 1) l (omega arith)
 
   module _ (hq : (1 ≤ q) × (q ≤ 32)) where
-    own-users : (l : List ℕ) → linesFor out a q (peerLines out a 1 (take 32 l)) ≡ lineWith out a q (getD l (q - 1) 0)
+    own-users : (l : List ℕ) → allFor out a q (entriesFrom (association out a) 1 (take 32 l)) ≡ ifStanding out a q (getD l (q - 1) 0)
     own-users l =
-        peers-own (q - 1) 1 (take 32 l) (omega (arith, hq)) ∙ ap (lineWith out a q) (getD-take 32 l (q - 1) 0 (omega (arith, hq)))
+        peers-own (q - 1) 1 (take 32 l) (omega (arith, hq)) ∙ ap (ifStanding out a q) (getD-take 32 l (q - 1) 0 (omega (arith, hq)))
 
 -- the place of the users of the node j after the first
 abbrev placeFrom : Bool → ℕ → ℕ → ℕ
@@ -119,10 +110,10 @@ placeFrom out j q = 64 * j + cond out 32 0 + (q - 1)
 
 -- the line among those of its own node
 node-own : (out : Bool) (a q : ℕ) → (1 ≤ q) × (q ≤ 32) → (l : List ℕ)
-    → linesFor out a q (ins a l) ++ linesFor out a q (outs a l) ≡ lineWith out a q (getD l (placeFrom out 0 q) 0)
+    → allFor out a q (ins a l) ++ allFor out a q (outs a l) ≡ ifStanding out a q (getD l (placeFrom out 0 q) 0)
 node-own true a q h l =
     rw (peers-apart true a q false a 1 (take 32 l) (λ r i j. refl))
-    (own-users true a q h (drop 32 l) ∙ ap (lineWith true a q) (getD-drop 32 l (q - 1) 0))
+    (own-users true a q h (drop 32 l) ∙ ap (ifStanding true a q) (getD-drop 32 l (q - 1) 0))
 node-own false a q h l =
     rw (peers-apart false a q true a 1 (take 32 (drop 32 l)) (λ r i j. refl), append-nil, zero-add (q - 1)) (own-users false a q h l)
 
@@ -142,11 +133,11 @@ not-both a q x p e hx hp =
 
 module _ (out : Bool) (a q : ℕ) where
   nodes-own : (1 ≤ q) × (q ≤ 32) → (k j b : ℕ) (l : List ℕ) → b + j ≡ a → j < k
-      → linesFor out a q (nodeLines k b l) ≡ lineWith out a q (getD l (placeFrom out j q) 0)
+      → allFor out a q (associations k b l) ≡ ifStanding out a q (getD l (placeFrom out j q) 0)
   nodes-own h zero j b l e i = absurd (omega arith)
   nodes-own h (suc k) zero b l e i =
       let w : b ≡ a = omega arith in
-      let rest : linesFor out a q (nodeLines k (a + 1) (drop 64 l)) ≡ [] =
+      let rest : allFor out a q (associations k (a + 1) (drop 64 l)) ≡ [] =
       nodes-apart out a q k (a + 1) (drop 64 l) (λ x p i j m n. rw (ne-eqb x a (λ z. omega arith))) in
       rw w (node-lines out a q k a l ∙ rw (rest, append-nil) (node-own out a q h l))
   nodes-own h (suc k) (suc j) b l e i =
@@ -155,18 +146,18 @@ module _ (out : Bool) (a q : ℕ) where
       node-lines out a q k b l
       ∙ rw (node-apart out a q false b 1 (take 32 l) ne, node-apart out a q true b 1 (take 32 (drop 32 l)) ne)
       (nodes-own h k j (b + 1) (drop 64 l) (omega arith) (omega arith)
-      ∙ ap (lineWith out a q) (getD-drop 64 l (placeFrom out j q) 0 ∙ ap (λ (n : ℕ). getD l n 0) w))
+      ∙ ap (ifStanding out a q) (getD-drop 64 l (placeFrom out j q) 0 ∙ ap (λ (n : ℕ). getD l n 0) w))
 
   -- the line among all of show's lines
-  shown-lines : (l : List ℕ) → linesFor out a q (shown l) ≡ lineWith out a q (usersOf l out a q)
+  shown-once : (l : List ℕ) → allFor out a q (shown l) ≡ ifStanding out a q (usersOf l out a q)
   unfolding shown usersOf
-  shown-lines l = lines-append out a q (nodeLines 32 1 l) (End ∷ []) ∙ append-nil (linesFor out a q (nodeLines 32 1 l)) ∙ go (areNodes a q) refl
+  shown-once l = go (areNodes a q) refl
     where
-      go : (b : Bool) → areNodes a q ≡ b → linesFor out a q (nodeLines 32 1 l) ≡ lineWith out a q (cond b (getD l (usersPlace out a q) 0) 0)
+      go : (b : Bool) → areNodes a q ≡ b → allFor out a q (associations 32 1 l) ≡ ifStanding out a q (cond b (getD l (usersPlace out a q) 0) 0)
       go true e =
           let b = node-bounds a q e in
           nodes-own (b .2, b .3) 32 (a - 1) 1 l (omega (arith, b)) (omega (arith, b))
       go false e = nodes-apart out a q 32 1 l (λ x p i j m n. not-both a q x p e (i, omega arith) (m, n))
 
 pub show : Show
-show = record { lines = λ l out a q. shown-lines out a q l; closed = shown-closed; fits = shown-fits }
+show = record { once = λ l out a q. shown-once out a q l; fits = shown-fits }

@@ -9,11 +9,11 @@ use native.Mathlib.Nat.{mul-zero, mul-suc, add-sub-cancel}
 use lib.ListN.{length, getD, set, take, drop, length-set, take-append-drop}
 use lib.Seq.{paste, take-all, take-take, take-add, ext-getD, set-getD, getD-set-same, getD-set-other}
 use Rattle.calculus.specs.declared.answer.Answer.{Answer}
-use Rattle.calculus.specs.declared.answer.Answer.the-variants.{Ok, No, End}
+use Rattle.calculus.specs.declared.answer.Answer.the-variants.{Ok, No}
 use Rattle.calculus.specs.declared.answer.Refusal.{Refusal}
 use Rattle.calculus.specs.declared.network.Network.{Network}
 use Rattle.calculus.specs.declared.request.Request as request
-use Rattle.calculus.specs.declared.request.Request.the-variants.{Node, Route, Open, Step, Send, Close, Show}
+use Rattle.calculus.specs.declared.request.Request.the-variants.{Node, Route, Open, Step, Send, Close, Show, Net}
 use Rattle.calculus.specs.declared.request.Sender.{Sender}
 use Rattle.calculus.specs.declared.state.Moved.{Moved}
 use Rattle.calculus.specs.declared.state.Part.{Part}
@@ -25,8 +25,8 @@ use Rattle.forms.specs.declared.read.Reading.{Reading}
 use Rattle.model.specs.Row.{oneMore, oneLess, lowered, stands}
 use Rattle.model.specs.State.{load, store, blankSession}
 use Rattle.model.specs.Requests.{Check, checked, refused, accepted, nodeTurn, routeTurn, Move, refuse, moved, openMove, stepMove, sendMove, closeMove, changed, performed}
-use Rattle.model.specs.Calls.{Reply, refusalIn, oneAnswer, requested, replied, repliedTo}
-use Rattle.model.specs.Turn.{staying, moving, usersAfter, sessionOf, requestedOf, turnOf, usersWith, usersOf, isOk, networkOf, answersOf, stateWith, Parts, Held}
+use Rattle.model.specs.Calls.{Lines, answer, Reply, refusalIn, oneAnswer, requested, replied, repliedTo}
+use Rattle.model.specs.Turn.{staying, moving, usersAfter, sessionOf, requestedOf, turnOf, usersWith, usersOf, isOk, networkOf, reportOf, linesAs, stateWith, Parts, Held}
 use Rattle.model.proofs.Checks.{checked-either}
 use Rattle.model.proofs.Users.{fold-length}
 use Rattle.model.proofs.Parts.{Sized, Whole, Numbered, store-sized, load-stored, load-others}
@@ -48,7 +48,7 @@ abbrev pub replyOf : State → Reading → Moved → List ℕ → Reply
 replyOf s r m users =
     record {
       state = stateWith s (sessionOf (r .parsed)) m (cond (isOk (m .answer)) (networkOf (s .network) (r .has) (r .needs) (r .parsed)) (s .network)) users;
-      answers = answersOf users (r .parsed) (m .answer);
+      lines = linesAs (s .network) users (m .answer) (reportOf (r .parsed));
       refusal = refusalIn (m .answer);
     }
 
@@ -78,7 +78,7 @@ module _ (s : State) (u : ℕ) where
   replyWith n m users =
       record {
         state = stateWith s u m (cond (isOk (m .answer)) n (s .network)) users;
-        answers = m .answer ∷ [];
+        lines = answer (m .answer);
         refusal = refusalIn (m .answer);
       }
 
@@ -122,7 +122,8 @@ parsed-whole s has needs (Asks (Open u c d)) = still-whole s (u .0) _ (open-stil
 parsed-whole s has needs (Asks (Step u k)) = performed-whole s (u .0) _
 parsed-whole s has needs (Asks (Send u w tag)) = still-whole s (u .0) _ (send-still (s .users) w tag (load s (u .0)))
 parsed-whole s has needs (Asks (Close u)) = performed-whole s (u .0) _
-parsed-whole s has needs (Asks Show) = rw (stays s 1 End (s .network))
+parsed-whole s has needs (Asks Show) = rw (stays s 1 Ok (s .network))
+parsed-whole s has needs (Asks Net) = rw (stays s 1 Ok (s .network))
 parsed-whole s has needs (Refused r) = refused-whole s 1 r (s .network)
 
 -- what `Calls` says of a line that was read is what `Turn` says of it in pieces
@@ -161,7 +162,7 @@ pub record Further (s : State) (r : Reading) (opened : Bool) (n : Network) (part
   pub sized : Sized (repliedTo s r .state)
   pub held : Held (repliedTo s r .state) (m .opens || opened) (cond (isOk (m .answer)) (networkOf n (r .has) (r .needs) (r .parsed)) n)
       (set parts (sessionOf (r .parsed) - 1) (m .part)) left
-  pub answers : repliedTo s r .answers ≡ answersOf left (r .parsed) (m .answer)
+  pub lines : repliedTo s r .lines ≡ linesAs n left (m .answer) (reportOf (r .parsed))
 
 -- no line changes how many users are counted
 after-length : (users : List ℕ) (m : Move) → length (usersAfter users m) ≡ length users
@@ -177,6 +178,7 @@ with-length n users t (Step u k) = after-length users (stepMove n (stands users 
 with-length n users t (Send u w tag) = refl
 with-length n users t (Close u) = after-length users (closeMove t)
 with-length n users t Show = refl
+with-length n users t Net = refl
 
 users-length : (n : Network) (users : List ℕ) (t : Part) (p : Parsed) → length (usersOf n users t p) ≡ length users
 users-length n users t (Asks q) = with-length n users t q
@@ -206,7 +208,7 @@ module _ {s : State} {opened : Bool} {n : Network} {parts : List Part} {users : 
           record {
             sized = rw e (left-sized hs (h .own) (sessionOf (r .parsed)) hu m hm _ left size);
             held = rw e (left-held hs (h .own) (sessionOf (r .parsed)) hu m hm _ left);
-            answers = ap (λ (x : Reply). x .answers) reply;
+            lines = ap (λ (x : Reply). x .lines) reply;
           }
 
 -- ---- pieces determine the state

@@ -1,35 +1,41 @@
 -- One call, and a list of calls. `simulator::call::call` cites `answered`. Assumes nothing.
 use Prim.Native.Nat.{ℕ}
 use mathlib.Core.Bool.{Bool, true, false, cond}
-use mathlib.Core.List.{List, [], _∷_, _++_, map}
+use mathlib.Core.List.{List, [], _∷_, _++_}
 use mathlib.Core.Option.{Option, none, some}
 use lib.Dec.{ltb, eqb}
 use lib.ListN.{length, drop}
 use Rattle.calculus.specs.declared.answer.Answer.{Answer}
-use Rattle.calculus.specs.declared.answer.Answer.the-variants.{Ok, Made, MadeTwo, Lost, Denied, Opened, Delivered, Closed, No, Assoc, End}
+use Rattle.calculus.specs.declared.answer.Answer.the-variants.{Ok, Made, MadeTwo, Lost, Denied, Opened, Delivered, Closed, No}
 use Rattle.calculus.specs.declared.answer.Refusal.{Refusal}
 use Rattle.calculus.specs.declared.answer.Refusal.the-variants.{Short}
 use Rattle.calculus.specs.declared.request.Request as request
-use Rattle.calculus.specs.declared.request.Request.the-variants.{Node, Route, Open, Step, Send, Close, Show}
+use Rattle.calculus.specs.declared.request.Request.the-variants.{Node, Route, Open, Step, Send, Close, Show, Net}
 use Rattle.calculus.specs.declared.state.State.{State}
 use Rattle.calculus.specs.declared.state.Turn.{Turn}
 use Rattle.forms.specs.declared.read.Parsed.{Parsed}
 use Rattle.forms.specs.declared.read.Parsed.the-variants.{Asks, Refused}
 use Rattle.forms.specs.declared.read.Reading.{Reading}
 use Rattle.forms.specs.Bytes.{joined}
-use Rattle.forms.specs.Text.{Form, node, route, «open», step, send, close, show}
+use Rattle.forms.specs.Text.{Form, node, route, «open», step, send, close, show, net}
 use Rattle.forms.specs.Read.{read}
 use Rattle.forms.specs.Request.{asked}
 use Rattle.forms.specs.Answer.{answerText}
+use Rattle.model.specs.NetworkText.{networkLines}
 use Rattle.model.specs.Row.{stands}
-use Rattle.model.specs.Requests.{refused, nodeTurn, routeTurn, inSession, openMove, stepMove, sendMove, closeMove, shown}
+use Rattle.model.specs.Requests.{refused, nodeTurn, routeTurn, inSession, openMove, stepMove, sendMove, closeMove, shownLines}
 
 -- ---- one call
 
--- what a call answers and leaves; `refusal` is what it returns, if refused
+-- what a call writes: the line of its answer, or the lines of a report, each with its newline
+pub data Lines : Type 0 where
+  answer : Answer → Lines
+  report : List (List ℕ) → Lines
+
+-- what a call writes and leaves; `refusal` is what it returns, if refused
 pub record Reply : Type 0 where
   pub state : State
-  pub answers : List Answer
+  pub lines : Lines
   pub refusal : Option Refusal
 
 abbrev pub refusalIn : Answer → Option Refusal
@@ -42,16 +48,18 @@ refusalIn Opened = none
 refusalIn (Delivered tag) = none
 refusalIn Closed = none
 refusalIn (No r) = some r
-refusalIn (Assoc a out q spi users) = none
-refusalIn End = none
 
 -- one answer
 abbrev pub oneAnswer : Turn → Reply
-oneAnswer t = record { state = t .state; answers = t .answer ∷ []; refusal = refusalIn (t .answer) }
+oneAnswer t = record { state = t .state; lines = answer (t .answer); refusal = refusalIn (t .answer) }
+
+-- a report changes nothing
+abbrev pub reported : State → List (List ℕ) → Reply
+reported s ls = record { state = s; lines = report ls; refusal = none }
 
 -- refusal 0: "nothing written"
 abbrev pub short : State → Reply
-short s = record { state = s; answers = []; refusal = some Short }
+short s = record { state = s; lines = report []; refusal = some Short }
 
 -- a request with its credentials, if it is a node's
 unfoldable pub requested : State → List Bool → List Bool → request.Request → Reply
@@ -61,7 +69,8 @@ requested s has needs (Open u c d) = oneAnswer (inSession s (u .0) (openMove (s 
 requested s has needs (Step u k) = oneAnswer (inSession s (u .0) (stepMove (s .network) (stands (s .users) false) (k .0)))
 requested s has needs (Send u w tag) = oneAnswer (inSession s (u .0) (sendMove w tag))
 requested s has needs (Close u) = oneAnswer (inSession s (u .0) closeMove)
-requested s has needs Show = record { state = s; answers = shown (s .users); refusal = none }
+requested s has needs Show = reported s (shownLines (s .users))
+requested s has needs Net = reported s (networkLines (s .network))
 
 -- "every call 0, 1, 2": 1 and 2 are the reading's
 abbrev pub replied : State → List Bool → List Bool → Parsed → Reply
@@ -75,9 +84,14 @@ repliedTo s r = replied s (r .has) (r .needs) (r .parsed)
 unfoldable pub answered : State → List ℕ → ℕ → Reply
 answered s line size = cond (ltb size 65536) (short s) (repliedTo s (asked (read line)))
 
+-- the bytes of the lines
+abbrev pub linesText : Lines → List ℕ
+linesText (answer a) = answerText a
+linesText (report ls) = joined ls
+
 -- the lines that are written
 abbrev pub linesOf : Reply → List ℕ
-linesOf r = joined (map answerText (r .answers))
+linesOf r = linesText (r .lines)
 
 -- the lent output after the call: the lines, and "output bytes past them stay"
 abbrev pub outputAfter : List ℕ → Reply → List ℕ
@@ -111,6 +125,7 @@ formGivesNetwork (some (step u k)) = false
 formGivesNetwork (some (send u w tag)) = false
 formGivesNetwork (some (close u)) = false
 formGivesNetwork (some show) = false
+formGivesNetwork (some net) = false
 formGivesNetwork none = false
 
 abbrev pub givesNetwork : Call → Bool
@@ -125,6 +140,7 @@ formNames u (some (step v k)) = eqb v u
 formNames u (some (send v w tag)) = eqb v u
 formNames u (some (close v)) = eqb v u
 formNames u (some show) = false
+formNames u (some net) = false
 formNames u none = false
 
 -- "A call is a session's own if its line names that session"

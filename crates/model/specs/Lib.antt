@@ -1,6 +1,7 @@
 -- What document 01 says, in its order, and then the promises.
 pub mod Lists
 pub mod Network
+pub mod NetworkText
 pub mod Packet
 pub mod Item
 pub mod Row
@@ -16,5 +17,6 @@ pub mod Noninterference
 pub mod SetUp
 pub mod Refusals
 pub mod Show
+pub mod GivenBack
 pub mod Listings
 pub mod ListingsHold

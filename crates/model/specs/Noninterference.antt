@@ -7,7 +7,7 @@ use mathlib.Core.Option.{Option, none, some}
 use Rattle.calculus.specs.Answer.{refusalNumber}
 use Rattle.calculus.specs.Number.{isNode, isSession}
 use Rattle.calculus.specs.declared.answer.Answer.{Answer}
-use Rattle.calculus.specs.declared.answer.Answer.the-variants.{Ok, Made, MadeTwo, Lost, Denied, Opened, Delivered, Closed, No, Assoc, End}
+use Rattle.calculus.specs.declared.answer.Answer.the-variants.{Ok, Made, MadeTwo, Lost, Denied, Opened, Delivered, Closed, No}
 use Rattle.calculus.specs.declared.answer.Refusal.{Refusal}
 use Rattle.calculus.specs.declared.packet.Slot.{Slot}
 use Rattle.calculus.specs.declared.session.Row.{Row}
@@ -19,7 +19,7 @@ use Rattle.model.specs.Item.{vacant}
 use Rattle.model.specs.Row.{held, howMany, usersOf, rowStands}
 use Rattle.model.specs.State.{fresh, load}
 use Rattle.model.specs.Requests.{unused}
-use Rattle.model.specs.Calls.{Call, Reply, linesOf, after, replies, givesNetwork, own, repliesTo}
+use Rattle.model.specs.Calls.{Call, Lines, answer, report, Reply, linesOf, after, replies, givesNetwork, own, repliesTo}
 
 -- ---- an answer
 
@@ -46,17 +46,16 @@ numbersIn Opened = []
 numbersIn (Delivered tag) = []
 numbersIn Closed = []
 numbersIn (No r) = []
-numbersIn (Assoc a out q spi users) = []
-numbersIn End = []
 
-abbrev pub numbersInAll : List Answer → List ℕ
-numbersInAll [] = []
-numbersInAll (a ∷ l) = numbersIn a ++ numbersInAll l
+-- a report issues none
+abbrev pub numbersInLines : Lines → List ℕ
+numbersInLines (answer a) = numbersIn a
+numbersInLines (report ls) = []
 
 -- the numbers that these replies issue, in order
 unfoldable pub issued : List Reply → List ℕ
 issued [] = []
-issued (r ∷ rs) = numbersInAll (r .answers) ++ issued rs
+issued (r ∷ rs) = numbersInLines (r .lines) ++ issued rs
 
 -- ---- what a session sees of itself
 

@@ -1,11 +1,12 @@
 -- What each request answers, and the state that it leaves; its refusals, in document 01's order. Assumes nothing.
 use Prim.Native.Nat.{ℕ, zero, suc, _+_, _-_}
 use mathlib.Core.Bool.{Bool, true, false, cond, not, _&&_, _||_}
-use mathlib.Core.List.{List, [], _∷_, _++_}
+use mathlib.Core.List.{List, [], _∷_, _++_, map}
 use lib.Dec.{leb, ltb, eqb}
 use lib.ListN.{getD, set, take, drop}
 use Rattle.calculus.specs.declared.answer.Answer.{Answer}
-use Rattle.calculus.specs.declared.answer.Answer.the-variants.{Ok, Made, Closed, No, Assoc, End}
+use Rattle.calculus.specs.declared.answer.Answer.the-variants.{Ok, Made, Closed, No}
+use Rattle.calculus.specs.declared.answer.Association.{Association}
 use Rattle.calculus.specs.declared.answer.Refusal.{Refusal}
 use Rattle.calculus.specs.declared.answer.Refusal.the-variants.{Double, Unknown, Late, Taken, Idle, Same, Spent, NoItem, Waiting, Full}
 use Rattle.calculus.specs.declared.answer.Refusal.the-variants as refusal
@@ -25,6 +26,8 @@ use Rattle.calculus.specs.declared.effect.Effect.{Effect}
 use Rattle.calculus.specs.declared.state.Part.{Part}
 use Rattle.calculus.specs.declared.state.State.{State}
 use Rattle.calculus.specs.declared.state.Turn.{Turn}
+use Rattle.calculus.specs.Table.{entriesFrom, onlyIf}
+use Rattle.forms.specs.Answer.{associationLine, endLine}
 use Rattle.model.specs.Lists.{place}
 use Rattle.model.specs.Network.{given, isGateway, nextHop, routePlace}
 use Rattle.model.specs.Packet.{bare}
@@ -75,12 +78,20 @@ abbrev pub isFound : NextHop → Bool
 isFound (Found next) = true
 isFound Missing = false
 
+-- the nodes of a route are given
+abbrev pub nodesGiven : Network → ℕ → ℕ → ℕ → Bool
+nodesGiven n a b next = given n a && (given n b && given n next)
+
+-- it leads from a node for that node, or to that node
+abbrev pub leadsBack : ℕ → ℕ → ℕ → Bool
+leadsBack a b next = eqb a b || eqb a next
+
 -- route 5, 4, 8, 3
 abbrev pub routeChecks : Bool → Network → ℕ → ℕ → ℕ → List Check
 routeChecks opened n a b next =
     (opened, Late)
-    ∷ (not (given n a && (given n b && given n next)), Unknown)
-    ∷ (eqb a b || eqb a next, Same)
+    ∷ (not (nodesGiven n a b next), Unknown)
+    ∷ (leadsBack a b next, Same)
     ∷ (isFound (nextHop n a b), Double)
     ∷ []
 
@@ -221,19 +232,21 @@ inSession s u f = performed s u (f (load s u))
 
 -- ---- show
 
--- the lines of a's associations with the peers q, q + 1, .., whose users are l: of those that stand
-unfoldable pub peerLines : Bool → ℕ → ℕ → List ℕ → List Answer
-peerLines out a q [] = []
-peerLines out a q (n ∷ l) =
-    let more = peerLines out a (q + 1) l in
-    cond (ltb 0 n) (Assoc a out q (spiOf out a q) n ∷ more) more
+-- In(a, q), or Out(a, q), with its n users, if it stands
+abbrev pub association : Bool → ℕ → ℕ → ℕ → List Association
+association out a q n = onlyIf (ltb 0 n) (record { node = a; out = out; peer = q; spi = spiOf out a q; users = n })
 
--- the lines of k nodes from a on, whose users are l: in, then out, each by peer
-unfoldable pub nodeLines : ℕ → ℕ → List ℕ → List Answer
-nodeLines zero a l = []
-nodeLines (suc k) a l =
-    peerLines false a 1 (take 32 l) ++ (peerLines true a 1 (take 32 (drop 32 l)) ++ nodeLines k (a + 1) (drop 64 l))
+-- those of k nodes from a on, whose users are l: in, then out, each by peer
+unfoldable pub associations : ℕ → ℕ → List ℕ → List Association
+associations zero a l = []
+associations (suc k) a l =
+    entriesFrom (association false a) 1 (take 32 l)
+    ++ (entriesFrom (association true a) 1 (take 32 (drop 32 l)) ++ associations k (a + 1) (drop 64 l))
 
--- "one line for each standing association, no other", as Show states; "then (end)"
-unfoldable pub shown : List ℕ → List Answer
-shown l = nodeLines 32 1 l ++ (End ∷ [])
+-- the standing associations, as Show states
+unfoldable pub shown : List ℕ → List Association
+shown l = associations 32 1 l
+
+-- "one line for each standing association, no other; then (end)"
+abbrev pub shownLines : List ℕ → List (List ℕ)
+shownLines l = map associationLine (shown l) ++ (endLine ∷ [])

@@ -7,19 +7,23 @@ use mathlib.Core.Bool.{Bool, true, false, cond, _||_}
 use mathlib.Core.List.{List, [], _∷_}
 use lib.ListN.{length, getD}
 use Rattle.calculus.specs.declared.answer.Answer.{Answer}
-use Rattle.calculus.specs.declared.answer.Answer.the-variants.{Ok, Made, MadeTwo, Lost, Denied, Opened, Delivered, Closed, No, Assoc, End}
+use Rattle.calculus.specs.declared.answer.Answer.the-variants.{Ok, Made, MadeTwo, Lost, Denied, Opened, Delivered, Closed, No}
 use Rattle.calculus.specs.declared.network.Network.{Network}
+use Rattle.calculus.specs.declared.request.Report.{Report}
+use Rattle.calculus.specs.declared.request.Report.the-variants.{OneAnswer, AllAssociations, WholeNetwork}
 use Rattle.calculus.specs.declared.request.Request as request
-use Rattle.calculus.specs.declared.request.Request.the-variants.{Node, Route, Open, Step, Send, Close, Show}
+use Rattle.calculus.specs.declared.request.Request.the-variants.{Node, Route, Open, Step, Send, Close, Show, Net}
 use Rattle.calculus.specs.declared.state.Moved.{Moved}
 use Rattle.calculus.specs.declared.state.Part.{Part}
 use Rattle.calculus.specs.declared.state.State.{State}
 use Rattle.forms.specs.declared.read.Parsed.{Parsed}
 use Rattle.forms.specs.declared.read.Parsed.the-variants.{Asks, Refused}
 use Rattle.forms.specs.declared.read.Reading.{Reading}
+use Rattle.model.specs.NetworkText.{networkLines}
 use Rattle.model.specs.Row.{stands, raised, lowered}
 use Rattle.model.specs.State.{load, store}
-use Rattle.model.specs.Requests.{Move, refuse, moved, checked, nodeChecks, routeChecks, withNode, withRoute, openMove, stepMove, sendMove, closeMove, shown}
+use Rattle.model.specs.Requests.{Move, refuse, moved, checked, nodeChecks, routeChecks, withNode, withRoute, openMove, stepMove, sendMove, closeMove, shownLines}
+use Rattle.model.specs.Calls.{Lines, answer, report}
 
 -- ---- a move
 
@@ -53,12 +57,13 @@ sessionIn (Step u k) = u .0
 sessionIn (Send u w tag) = u .0
 sessionIn (Close u) = u .0
 sessionIn Show = 1
+sessionIn Net = 1
 
 abbrev pub sessionOf : Parsed → ℕ
 sessionOf (Asks q) = sessionIn q
 sessionOf (Refused r) = 1
 
--- what a request does to the part t, and answers; show's answer here is its last line
+-- what a request does to the part t, and answers; (ok) stands for a report, which is accepted
 unfoldable pub requestedOf : Bool → Network → List ℕ → Part → request.Request → Moved
 requestedOf opened n users t (Node a k) = staying t (checked No (nodeChecks opened n a) Ok)
 requestedOf opened n users t (Route a b next) = staying t (checked No (routeChecks opened n a b next) Ok)
@@ -66,7 +71,8 @@ requestedOf opened n users t (Open u c d) = moving t (openMove n c d t)
 requestedOf opened n users t (Step u k) = moving t (stepMove n (stands users false) (k .0) t)
 requestedOf opened n users t (Send u w tag) = moving t (sendMove w tag t)
 requestedOf opened n users t (Close u) = moving t (closeMove t)
-requestedOf opened n users t Show = staying t End
+requestedOf opened n users t Show = staying t Ok
+requestedOf opened n users t Net = staying t Ok
 
 abbrev pub turnOf : Bool → Network → List ℕ → Part → Parsed → Moved
 turnOf opened n users t (Asks q) = requestedOf opened n users t q
@@ -81,12 +87,13 @@ usersWith n users t (Step u k) = usersAfter users (stepMove n (stands users fals
 usersWith n users t (Send u w tag) = users
 usersWith n users t (Close u) = usersAfter users (closeMove t)
 usersWith n users t Show = users
+usersWith n users t Net = users
 
 abbrev pub usersOf : Network → List ℕ → Part → Parsed → List ℕ
 usersOf n users t (Asks q) = usersWith n users t q
 usersOf n users t (Refused r) = users
 
--- (ok) answers the accepted node and route calls alone
+-- where a call is answered (ok), the network may change
 abbrev pub isOk : Answer → Bool
 isOk Ok = true
 isOk (Made n) = false
@@ -97,8 +104,6 @@ isOk Opened = false
 isOk (Delivered tag) = false
 isOk Closed = false
 isOk (No r) = false
-isOk (Assoc a out q spi users) = false
-isOk End = false
 
 -- the network once an accepted node or route call has given its part
 abbrev pub networkWith : Network → List Bool → List Bool → request.Request → Network
@@ -109,27 +114,32 @@ networkWith n has needs (Step u k) = n
 networkWith n has needs (Send u w tag) = n
 networkWith n has needs (Close u) = n
 networkWith n has needs Show = n
+networkWith n has needs Net = n
 
 abbrev pub networkOf : Network → List Bool → List Bool → Parsed → Network
 networkOf n has needs (Asks q) = networkWith n has needs q
 networkOf n has needs (Refused r) = n
 
-abbrev pub isShowRequest : request.Request → Bool
-isShowRequest (Node a k) = false
-isShowRequest (Route a b n) = false
-isShowRequest (Open u c d) = false
-isShowRequest (Step u k) = false
-isShowRequest (Send u w tag) = false
-isShowRequest (Close u) = false
-isShowRequest Show = true
+-- the report that a request asks for, if it asks for one
+abbrev pub reportIn : request.Request → Report
+reportIn (Node a k) = OneAnswer
+reportIn (Route a b n) = OneAnswer
+reportIn (Open u c d) = OneAnswer
+reportIn (Step u k) = OneAnswer
+reportIn (Send u w tag) = OneAnswer
+reportIn (Close u) = OneAnswer
+reportIn Show = AllAssociations
+reportIn Net = WholeNetwork
 
-abbrev pub isShow : Parsed → Bool
-isShow (Asks q) = isShowRequest q
-isShow (Refused r) = false
+abbrev pub reportOf : Parsed → Report
+reportOf (Asks q) = reportIn q
+reportOf (Refused r) = OneAnswer
 
--- the answers: show's lines, or the one
-abbrev pub answersOf : List ℕ → Parsed → Answer → List Answer
-answersOf users p a = cond (isShow p) (shown users) (a ∷ [])
+-- its lines, or that of the answer a
+abbrev pub linesAs : Network → List ℕ → Answer → Report → Lines
+linesAs n users a OneAnswer = answer a
+linesAs n users a AllAssociations = report (shownLines users)
+linesAs n users a WholeNetwork = report (networkLines n)
 
 -- ---- the whole state
 

@@ -1,4 +1,4 @@
--- `write::put_number` meets its contract. The measure is the number. Assumes nothing.
+-- `put::put_number` meets its contract. The measure is the number. Assumes nothing.
 use mathlib.Core.Path.{_≡_}
 use mathlib.Core.List.{List, [], _∷_}
 use Prim.Native.Nat.{ℕ, _+_, _/_, _%_, _≤_, _<_}
@@ -10,13 +10,13 @@ use Rattle.forms.specs.Bytes.{decimal}
 use Rattle.answers.specs.Put.{Put}
 use Rattle.forms.proofs.Decimal.{decimal-small, decimal-large, width-large, width-some}
 use Rattle.answers.proofs.Sets.{put-append}
-use Rattle.answers.proofs.write.put_number.Reads as put-number
-use Rattle.answers.proofs.write.put_number.Kinds as put-number-kinds
-use Rattle.answers.proofs.write.+put_number.Lts-put_number as lts
-use Rattle.answers.proofs.write.digit.Reads as digit-reads
-use Rattle.answers.proofs.write.put_byte.Reads as put-byte-reads
-use Rattle.answers.proofs.write.+put_number.{statement}
-use Rattle.answers.proofs.write.+put_number.Tie.{close}
+use Rattle.answers.proofs.put.put_number.Reads as put-number
+use Rattle.answers.proofs.put.put_number.Kinds as put-number-kinds
+use Rattle.answers.proofs.put.+put_number.Lts-put_number as lts
+use Rattle.answers.proofs.put.digit.Reads as digit-reads
+use Rattle.answers.proofs.put.put_byte.Reads as put-byte-reads
+use Rattle.answers.proofs.put.+put_number.{statement}
+use Rattle.answers.proofs.put.+put_number.Tie.{close}
 
 put-small : {l m : List ℕ} {at p n d : ℕ} → n < 10 → d ≡ 48 + n → Put l at (d ∷ []) m p → Put l at (decimal n) m p
 put-small h e f = rw (decimal-small _ h, ← e) f

@@ -1,12 +1,12 @@
--- `write::put_word` meets its contract. The loop's invariant: what is left to be put is the word from i on. Assumes nothing.
+-- `put::put_word` meets its contract. The loop's invariant: what is left to be put is the word from i on. Assumes nothing.
 use Prim.Native.Nat.{_-_}
 use native.Mathlib.Omega.{arith}
 use borrow.Author.Needs.{needs}
 use lib.ListN.{length, drop, drop-of-length-le, length-drop}
 use Rattle.forms.proofs.Loops.{drop-next}
 use Rattle.answers.proofs.Sets.{Left, left-all, left-part, left-last, put-none}
-use Rattle.answers.proofs.write.put_word.Statement.{statement}
-use Rattle.answers.proofs.write.put_word.Tie as tie
+use Rattle.answers.proofs.put.put_word.Statement.{statement}
+use Rattle.answers.proofs.put.put_word.Tie as tie
 
 abbrev Inv-loop : tie.InvT-loop
 Inv-loop out₀ at word next₀ i₀ out next i = Left out₀ at word out next (drop i word)

@@ -1,4 +1,4 @@
--- `write::put_numbers` meets its contract. The loop's invariant: what is left to be put is the text of the numbers from i on. Assumes nothing.
+-- `put::put_numbers` meets its contract. The loop's invariant: what is left to be put is the text of the numbers from i on. Assumes nothing.
 use mathlib.Core.Path.{_≡_}
 use mathlib.Core.List.{List, _++_}
 use Prim.Native.Nat.{ℕ, _+_, _-_, _≤_, _<_}
@@ -10,8 +10,8 @@ use Rattle.forms.specs.Text.{listText}
 use Rattle.forms.proofs.Loops.{drop-next}
 use Rattle.answers.proofs.Sets.{Left, left-all, left-part, left-last}
 use Rattle.forms.proofs.Lists.{width-list}
-use Rattle.answers.proofs.write.put_numbers.Statement.{statement}
-use Rattle.answers.proofs.write.put_numbers.Tie as tie
+use Rattle.answers.proofs.put.put_numbers.Statement.{statement}
+use Rattle.answers.proofs.put.put_numbers.Tie as tie
 
 module _ (ns : List ℕ) (i : ℕ) where
   list-next : i < length ns → listText (drop i ns) ≡ bytes " " ++ (decimal (getD ns i 0) ++ listText (drop (i + 1) ns))

@@ -1,10 +1,10 @@
--- `write::put_assoc` meets its contract, part by part. Assumes nothing.
+-- `report::put_association` meets its contract, part by part. Assumes nothing.
 use native.Mathlib.Omega.{arith}
 use borrow.Author.Needs.{needs}
 use lib.ListN.{length-append}
 use Rattle.answers.proofs.Sets.{put-none, put-append}
-use Rattle.answers.proofs.write.put_assoc.Statement.{statement}
-use Rattle.answers.proofs.write.put_assoc.Tie as tie
+use Rattle.answers.proofs.report.put_association.Statement.{statement}
+use Rattle.answers.proofs.report.put_association.Tie as tie
 
 put-word-requires : tie.Need-put-word-requires
 put-word-requires c κs =
@@ -37,8 +37,8 @@ returns c =
     (put-append (c₇ .put-direction .ensures)
     (put-append (c .before .before .put-line .ensures) put-none)))
 
-pub put-assoc-spec : {M : Type 1} → statement M
-put-assoc-spec =
+pub put-association-spec : {M : Type 1} → statement M
+put-association-spec =
     tie.close
     (tie.spec
     (λ c. search needs)

@@ -1,7 +1,7 @@
--- `write::put_direction` meets its contract, by its one test. Assumes nothing.
+-- `report::put_direction` meets its contract, by its one test. Assumes nothing.
 use borrow.Author.Needs.{needs}
-use Rattle.answers.proofs.write.put_direction.Statement.{statement}
-use Rattle.answers.proofs.write.put_direction.Tie as tie
+use Rattle.answers.proofs.report.put_direction.Statement.{statement}
+use Rattle.answers.proofs.report.put_direction.Tie as tie
 
 put-word-requires : tie.Need-put-word-requires
 put-word-requires c κs =

@@ -1,10 +1,10 @@
--- `write::put_line` meets its contract, part by part. Assumes nothing.
+-- `put::put_line` meets its contract, part by part. Assumes nothing.
 use native.Mathlib.Omega.{arith}
 use borrow.Author.Needs.{needs}
 use lib.ListN.{length-append}
 use Rattle.answers.proofs.Sets.{put-append}
-use Rattle.answers.proofs.write.put_line.Statement.{statement}
-use Rattle.answers.proofs.write.put_line.Tie as tie
+use Rattle.answers.proofs.put.put_line.Statement.{statement}
+use Rattle.answers.proofs.put.put_line.Tie as tie
 
 put-word-requires : tie.Need-put-word-requires
 put-word-requires c κs =

@@ -1,0 +1,93 @@
+// Texts put into an output, part by part. Each function puts its text at a place and answers the place behind it; its caller has
+// made sure of the room.
+ghost use Prim.Native.Nat.{_+_, _≤_, _<_};
+ghost use mathlib.Core.Path.{_≡_};
+ghost use mathlib.Core.List.{[], _∷_};
+ghost use lib.ListN.{length};
+ghost use Rattle.forms.specs.Bytes.{decimal};
+ghost use Rattle.forms.specs.Text.{listText};
+ghost use Rattle.forms.specs.Answer.{lineText};
+ghost use Rattle.answers.specs.Put.{Put};
+
+// One byte.
+pub fn put_byte(out: &mut [u8], at: usize, byte: u8) -> usize
+    requires { ⌜ at < length (now out) ⌝ }
+    ensures { λ r. ⌜ Put (now (out .entry)) at (byte ∷ []) (now (out .exit)) r ⌝ }
+{
+    let next = at + 1;
+    out[at] = byte;
+    next
+}
+
+// A word's bytes.
+pub fn put_word(out: &mut [u8], at: usize, word: &[u8]) -> usize
+    requires { ⌜ at + length (now word) ≤ length (now out) ⌝ }
+    ensures { λ r. ⌜ Put (now (out .entry)) at (now (word .entry)) (now (out .exit)) r ⌝ }
+{
+    let mut next = at;
+    let mut i = 0;
+    while i < word.len() {
+        let byte = word[i];
+        next = put_byte(out, next, byte);
+        i += 1;
+    }
+    next
+}
+
+// The byte of a digit.
+fn digit(d: u64) -> u8
+    requires { ⌜ d < 10 ⌝ }
+    ensures { λ r. ⌜ r ≡ 48 + d ⌝ }
+{
+    (48 + d) as u8
+}
+
+// `n` in decimal: what stands before its last digit, then that digit.
+pub fn put_number(out: &mut [u8], at: usize, n: u64) -> usize
+    requires { ⌜ at + length (decimal n) ≤ length (now out) ⌝ }
+    ensures { λ r. ⌜ Put (now (out .entry)) at (decimal n) (now (out .exit)) r ⌝ }
+{
+    if n < 10 {
+        let last = digit(n);
+        put_byte(out, at, last)
+    } else {
+        let next = put_number(out, at, n / 10);
+        let last = digit(n % 10);
+        put_byte(out, next, last)
+    }
+}
+
+// Each number behind a space, then a closing bracket.
+pub fn put_numbers(out: &mut [u8], at: usize, ns: &[u64]) -> usize
+    requires { ⌜ at + length (listText (now ns)) ≤ length (now out) ⌝ }
+    ensures { λ r. ⌜ Put (now (out .entry)) at (listText (now (ns .entry))) (now (out .exit)) r ⌝ }
+{
+    let mut next = at;
+    let mut i = 0;
+    while i < ns.len() {
+        let n = ns[i];
+        let behind = put_byte(out, next, b' ');
+        next = put_number(out, behind, n);
+        i += 1;
+    }
+    put_byte(out, next, b')')
+}
+
+// A word, its numbers and a newline.
+pub fn put_line(out: &mut [u8], at: usize, word: &[u8], ns: &[u64]) -> usize
+    requires { ⌜ at + length (lineText (now word) (now ns)) ≤ length (now out) ⌝ }
+    ensures { λ r. ⌜ Put (now (out .entry)) at (lineText (now (word .entry)) (now (ns .entry))) (now (out .exit)) r ⌝ }
+{
+    let p = put_word(out, at, word);
+    let q = put_numbers(out, p, ns);
+    put_byte(out, q, b'\n')
+}
+
+// A word, one number and a newline.
+pub fn put_one(out: &mut [u8], at: usize, word: &[u8], n: u64) -> usize
+    requires { ⌜ at + length (lineText (now word) (n ∷ [])) ≤ length (now out) ⌝ }
+    ensures { λ r. ⌜ Put (now (out .entry)) at (lineText (now (word .entry)) (n ∷ [])) (now (out .exit)) r ⌝ }
+{
+    let ns = [n];
+    put_line(out, at, word, &ns)
+}

@@ -1,0 +1,58 @@
+-- The network's text gives that network again, and no other (document 02, #101). Proved in proofs/GivenBack. Assumes nothing.
+use Prim.Native.Nat.{ℕ, _≤_}
+use mathlib.Core.Path.{_≡_}
+use mathlib.Core.Bool.{true, false}
+use mathlib.Core.List.{List, map}
+use mathlib.Core.Logic.{_↔_}
+use lib.ListN.{length}
+use Rattle.calculus.specs.declared.answer.Answer.the-variants.{Ok}
+use Rattle.calculus.specs.declared.network.Network.{Network}
+use Rattle.calculus.specs.declared.network.NextHop.the-variants.{Found}
+use Rattle.calculus.specs.declared.network.Node.{Node}
+use Rattle.calculus.specs.declared.state.State.{State}
+use Rattle.forms.specs.Text.{net, text}
+use Rattle.forms.specs.Line.{lines}
+use Rattle.model.specs.Lists.{All}
+use Rattle.model.specs.Network.{noNode, nextHop}
+use Rattle.model.specs.NetworkText.{networkLines, networkText}
+use Rattle.model.specs.State.{fresh}
+use Rattle.model.specs.Requests.{accepted, nodesGiven, leadsBack}
+use Rattle.model.specs.Calls.{Call, answer, Reply, reported, call, after, replies}
+use Rattle.model.specs.Texts.{roomyCall, afterLines}
+
+-- ---- the networks that calls leave
+
+-- a place of the nodes' table: both its sets have 64 places, and where no node was given it is empty
+pub record IsPlace (x : Node) : Type 0 where
+  pub has : length (x .has) ≡ 64
+  pub needs : length (x .needs) ≡ 64
+  pub empty : x .given ≡ false → x ≡ noNode
+
+-- the tables have their sizes, each place is one, and each route is one that refusals 4 and 8 let pass
+pub record Consistent (n : Network) : Type 0 where
+  pub nodes : length (n .nodes) ≡ 32
+  pub routes : length (n .routes) ≡ 1024
+  pub places : All IsPlace (n .nodes)
+  pub routed : (a b next : ℕ) → nextHop n a b ≡ Found next → (nodesGiven n a b next ≡ true) × (leadsBack a b next ≡ false)
+
+-- ---- the text, read
+
+-- the fresh state, but for its network
+abbrev pub freshWith : Network → State
+freshWith n = accepted fresh n .state
+
+abbrev pub IsOk : Reply → Type 0
+IsOk r = r .lines ≡ answer Ok
+
+pub record GivenBack : Type 0 where
+  -- "(net) writes it", at any time, and changes nothing
+  pub written : (s : State) → call s (roomyCall (text net)) ≡ reported s (networkLines (s .network))
+  -- whatever is called of a fresh state, the network is consistent
+  pub consistent : (cs : List Call) → Consistent (after fresh cs .network)
+  -- "Read on a fresh desk, the output gives that network again", and changes nothing else; each line is accepted
+  pub again : (n : Network) → Consistent n → afterLines fresh (lines (networkText n)) ≡ freshWith n
+  pub accepts : (n : Network) → Consistent n → All IsOk (replies fresh (map roomyCall (lines (networkText n))))
+  -- "Two networks are equal exactly when their texts are the same bytes"
+  pub equal : (n m : Network) → Consistent n → Consistent m → (n ≡ m) ↔ (networkText n ≡ networkText m)
+  -- it fits into the lent output of 65,536 bytes
+  pub fits : (n : Network) → Consistent n → length (networkText n) ≤ 65536
