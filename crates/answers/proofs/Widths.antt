@@ -1,5 +1,5 @@
--- How many bytes the lines of answers take: none takes more than 32. Assumes nothing.
-use mathlib.Core.Path.{_≡_, refl}
+-- How many bytes a line takes: a node's at most 400, every other at most 32. Assumes nothing.
+use mathlib.Core.Path.{_≡_}
 use mathlib.Core.Bool.{Bool, true, false}
 use mathlib.Core.List.{List, [], _∷_}
 use Prim.Native.Nat.{ℕ, _+_, _^_, _≤_, _<_}
@@ -10,33 +10,30 @@ use denote.Laws.{Is}
 use denote.Enum.Declared.{row}
 use Rattle.calculus.specs.Answer.{refusalNumber, lossNumber}
 use Rattle.calculus.specs.declared.answer.Answer.{Answer}
-use Rattle.calculus.specs.declared.answer.Answer.the-variants.{Ok, Made, MadeTwo, Lost, Denied, Opened, Delivered, Closed, No, Assoc, End}
+use Rattle.calculus.specs.declared.answer.Answer.the-variants.{Ok, Made, MadeTwo, Lost, Denied, Opened, Delivered, Closed, No}
 use Rattle.calculus.specs.declared.answer.Loss as loss
 use Rattle.calculus.specs.declared.answer.Loss.the-variants.{Unprotected, HopLimit, NoRoute, NoTunnel, WrongTunnel, Exhausted}
 use Rattle.calculus.specs.declared.answer.Refusal as refusal
 use Rattle.calculus.specs.declared.answer.Refusal.the-variants as refusals
+use Rattle.calculus.specs.declared.answer.Association.{Association}
+use Rattle.calculus.specs.declared.network.Kind.{Kind}
 use Rattle.calculus.proofs.answer.Answer.{the-type}
 use Rattle.forms.specs.Bytes.{bytes}
-use Rattle.forms.specs.Text.{listText}
-use Rattle.forms.specs.Answer.{lineText, directionText, assocText, answerText}
+use Rattle.forms.specs.Text.{listText, node, route, text, formLine}
+use Rattle.forms.specs.Request.{credentialsFrom}
+use Rattle.forms.specs.Answer.{lineText, directionText, answerText, associationLine}
 use Rattle.forms.proofs.Decimal.{width-most}
 use Rattle.forms.proofs.Lists.{width-list}
-
-width-end : length (listText []) ≡ 1
-unfolding listText
-width-end = refl
+use Rattle.forms.proofs.Credentials.{list-end, credentials-width}
+use Rattle.forms.proofs.NetworkForms.{kind-width}
 
 width-line : (ns : List ℕ) → length (lineText [] ns) ≡ length (listText ns) + 1
 width-line ns = length-append (listText ns) (bytes "\n")
 
-width-direction : (out : Bool) → length (directionText out) ≤ 4
-width-direction true = omega arith
-width-direction false = omega arith
-
 -- ---- a line's numbers, behind its word
 
 pub line-one : (n : ℕ) → n < 2 ^ 32 → length (lineText [] (n ∷ [])) ≤ 13
-line-one n h = omega (arith, width-line (n ∷ []), width-list n [], width-end, width-most 9 n (omega arith))
+line-one n h = omega (arith, width-line (n ∷ []), width-list n [], list-end, width-most 9 n (omega arith))
 
 pub line-two : (n m : ℕ) → n < 2 ^ 32 → m < 2 ^ 32 → length (lineText [] (n ∷ m ∷ [])) ≤ 24
 line-two n m h g =
@@ -45,7 +42,7 @@ line-two n m h g =
       width-line (n ∷ m ∷ []),
       width-list n (m ∷ []),
       width-list m [],
-      width-end,
+      list-end,
       width-most 9 n (omega arith),
       width-most 9 m (omega arith),
     )
@@ -58,18 +55,11 @@ line-three a b c h g k =
       width-list a (b ∷ c ∷ []),
       width-list b (c ∷ []),
       width-list c [],
-      width-end,
+      list-end,
       width-most 2 a (omega arith),
       width-most 4 b (omega arith),
       width-most 4 c (omega arith),
     )
-
--- the longest line: "(assoc 255 out 255 65535 65535)" and its newline
-pub assoc-whole : (a : ℕ) (out : Bool) (q s u : ℕ) → a < 2 ^ 8 → q < 2 ^ 8 → s < 2 ^ 16 → u < 2 ^ 16
-    → length (assocText a out (q ∷ s ∷ u ∷ [])) ≤ 32
-assoc-whole a out q s u h g k j =
-    simp length-append
-    (omega (arith, width-most 2 a (omega arith), width-direction out, width-line (q ∷ s ∷ u ∷ []), line-three q s u g k j))
 
 -- ---- an answer
 
@@ -109,5 +99,36 @@ answer-width Opened vs h = omega arith
 answer-width (Delivered t) vs h = omega (arith, line-one t (omega arith))
 answer-width Closed vs h = omega arith
 answer-width (No r) vs h = omega (arith, line-one (refusalNumber r) (refusal-small r))
-answer-width (Assoc a out q s users) vs h = assoc-whole a out q (s .0) users (omega arith) (omega arith) (omega arith) (omega arith)
-answer-width End vs h = omega arith
+
+-- ---- a line of a report, its numbers having the widths of their types
+
+width-direction : (out : Bool) → length (directionText out) ≤ 4
+width-direction true = omega arith
+width-direction false = omega arith
+
+-- "(assoc 255 out 255 65535 65535)" and its newline
+pub association-width : (x : Association) → x .node < 2 ^ 8 → x .peer < 2 ^ 8 → x .spi .0 < 2 ^ 16 → x .users < 2 ^ 16
+    → length (associationLine x) ≤ 32
+unfolding associationLine
+association-width x h g k j =
+    let ns = x .peer ∷ x .spi .0 ∷ x .users ∷ [] in
+    simp length-append
+    (omega (
+      arith,
+      width-most 2 (x .node) (omega arith),
+      width-direction (x .out),
+      width-line ns,
+      line-three (x .peer) (x .spi .0) (x .users) g k j,
+    ))
+
+-- "(node 255 host (has 0 .. 63) (needs 0 .. 63))" and its newline
+pub node-line-width : (a : ℕ) (k : Kind) (has needs : List Bool) → a < 2 ^ 8 → length has ≡ 64 → length needs ≡ 64
+    → length (formLine (node a k (credentialsFrom 0 has) (credentialsFrom 0 needs))) ≤ 400
+unfolding text
+node-line-width a k has needs h g j =
+    simp length-append (omega (arith, kind-width k, width-most 2 a (omega arith), credentials-width has g, credentials-width needs j))
+
+-- "(route 255 255 255)" and its newline
+pub route-line-width : (a b next : ℕ) → a < 2 ^ 8 → b < 2 ^ 8 → next < 2 ^ 8 → length (formLine (route a b next)) ≤ 32
+unfolding text
+route-line-width a b next h g j = omega (arith, line-three a b next h (omega arith) (omega arith))

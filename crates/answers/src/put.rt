@@ -2,7 +2,7 @@
 // made sure of the room.
 ghost use Prim.Native.Nat.{_+_, _≤_, _<_};
 ghost use mathlib.Core.Path.{_≡_};
-ghost use mathlib.Core.List.{[], _∷_};
+ghost use mathlib.Core.List.{[], _∷_, _++_};
 ghost use lib.ListN.{length};
 ghost use Rattle.forms.specs.Bytes.{decimal};
 ghost use Rattle.forms.specs.Text.{listText};
@@ -55,6 +55,15 @@ pub fn put_number(out: &mut [u8], at: usize, n: u64) -> usize
         let last = digit(n % 10);
         put_byte(out, next, last)
     }
+}
+
+// A word, then a number right behind it.
+pub fn put_numbered(out: &mut [u8], at: usize, word: &[u8], n: u64) -> usize
+    requires { ⌜ at + length (now word ++ decimal n) ≤ length (now out) ⌝ }
+    ensures { λ r. ⌜ Put (now (out .entry)) at (now (word .entry) ++ decimal n) (now (out .exit)) r ⌝ }
+{
+    let next = put_word(out, at, word);
+    put_number(out, next, n)
 }
 
 // Each number behind a space, then a closing bracket.

@@ -3,15 +3,16 @@
 use crate::put::put_byte;
 use crate::put::put_line;
 use crate::put::put_number;
+use crate::put::put_numbered;
 use crate::put::put_word;
 use crate::room::has_room;
 use calculus::answer::Association;
 use calculus::network::Kind;
 ghost use Prim.Native.Nat.{_+_, _≤_};
-ghost use mathlib.Core.List.{[], _∷_};
+ghost use mathlib.Core.List.{_++_};
 ghost use lib.ListN.{length};
 ghost use Rattle.forms.specs.Text as form;
-ghost use Rattle.forms.specs.Text.{listText, kindText, text, formLine};
+ghost use Rattle.forms.specs.Text.{listText, kindText, formLine};
 ghost use Rattle.forms.specs.Request.{credentialsFrom};
 ghost use Rattle.forms.specs.Answer.{directionText, associationLine, endLine};
 ghost use Rattle.answers.specs.Write.{Writes};
@@ -36,11 +37,10 @@ fn put_association(out: &mut [u8], at: usize, x: Association) -> usize
     requires { ⌜ at + length (associationLine x) ≤ length (now out) ⌝ }
     ensures { λ r. ⌜ Put (now (out .entry)) at (associationLine x) (now (out .exit)) r ⌝ }
 {
-    let p = put_word(out, at, b"(assoc ");
-    let q = put_number(out, p, x.node as u64);
-    let r = put_direction(out, q, x.out);
+    let p = put_numbered(out, at, b"(assoc ", x.node as u64);
+    let q = put_direction(out, p, x.out);
     let ns = [x.peer as u64, x.spi.0 as u64, x.users as u64];
-    put_line(out, r, b"", &ns)
+    put_line(out, q, b"", &ns)
 }
 
 // Writes an association's line.
@@ -77,15 +77,15 @@ fn put_credential(out: &mut [u8], at: usize, n: u64, held: bool) -> usize
     at
 }
 
-// The credentials of a set, rising, each behind a space; then a closing bracket.
-fn put_credentials(out: &mut [u8], at: usize, set: [bool; 64]) -> usize
-    requires { ⌜ at + length (listText (credentialsFrom 0 set)) ≤ length (now out) ⌝ }
-    ensures { λ r. ⌜ Put (now (out .entry)) at (listText (credentialsFrom 0 set)) (now (out .exit)) r ⌝ }
+// A word, then the credentials that are held, rising, each behind a space; then a closing bracket.
+fn put_credentials(out: &mut [u8], at: usize, word: &[u8], held: [bool; 64]) -> usize
+    requires { ⌜ at + length (now word ++ listText (credentialsFrom 0 held)) ≤ length (now out) ⌝ }
+    ensures { λ r. ⌜ Put (now (out .entry)) at (now (word .entry) ++ listText (credentialsFrom 0 held)) (now (out .exit)) r ⌝ }
 {
-    let mut next = at;
+    let mut next = put_word(out, at, word);
     let mut i: usize = 0;
     while i < 64 {
-        next = put_credential(out, next, i as u64, set[i]);
+        next = put_credential(out, next, i as u64, held[i]);
         i += 1;
     }
     put_byte(out, next, b')')
@@ -112,16 +112,14 @@ fn put_node(
     needs: [bool; 64],
 ) -> usize
     requires { ⌜ at + length (formLine (form.node node kind (credentialsFrom 0 has) (credentialsFrom 0 needs))) ≤ length (now out) ⌝ }
-    ensures { λ r. ⌜ Put (now (out .entry)) at (formLine (form.node node kind (credentialsFrom 0 has) (credentialsFrom 0 needs))) (now (out .exit)) r ⌝ }
+    ensures { λ r.
+        ⌜ Put (now (out .entry)) at (formLine (form.node node kind (credentialsFrom 0 has) (credentialsFrom 0 needs))) (now (out .exit)) r ⌝ }
 {
-    let p = put_word(out, at, b"(node ");
-    let q = put_number(out, p, node as u64);
-    let r = put_kind(out, q, kind);
-    let s = put_word(out, r, b" (has");
-    let t = put_credentials(out, s, has);
-    let u = put_word(out, t, b" (needs");
-    let v = put_credentials(out, u, needs);
-    put_word(out, v, b")\n")
+    let p = put_numbered(out, at, b"(node ", node as u64);
+    let q = put_kind(out, p, kind);
+    let r = put_credentials(out, q, b" (has", has);
+    let s = put_credentials(out, r, b" (needs", needs);
+    put_word(out, s, b")\n")
 }
 
 // Writes the line that gives a node; none has more than 400 bytes.
@@ -133,7 +131,8 @@ pub fn write_node(
     has: [bool; 64],
     needs: [bool; 64],
 ) -> usize
-    ensures { λ r. ⌜ Writes 400 (now (out .entry)) at (formLine (form.node node kind (credentialsFrom 0 has) (credentialsFrom 0 needs))) (now (out .exit)) r ⌝ }
+    ensures { λ r.
+        ⌜ Writes 400 (now (out .entry)) at (formLine (form.node node kind (credentialsFrom 0 has) (credentialsFrom 0 needs))) (now (out .exit)) r ⌝ }
 {
     if has_room(out.len(), at, 400) {
         return put_node(out, at, node, kind, has, needs);

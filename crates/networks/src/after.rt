@@ -71,6 +71,7 @@ fn network_with(n: Network, has: [bool; 64], needs: [bool; 64], q: Request) -> N
         Request::Send(_, _, _) => n,
         Request::Close(_) => n,
         Request::Show => n,
+        Request::Net => n,
     }
 }
 
@@ -83,7 +84,7 @@ fn network_of(n: Network, has: [bool; 64], needs: [bool; 64], p: Parsed) -> Netw
     }
 }
 
-// Whether the answer is `(ok)`, which an accepted node or route call gets, and no other.
+// Whether the answer is `(ok)`: no other leaves another network.
 fn is_ok(answer: Answer) -> bool
     ensures { λ r. ⌜ r ≡ turns.isOk answer ⌝ }
 {
@@ -97,14 +98,6 @@ fn is_ok(answer: Answer) -> bool
         Answer::Delivered(_) => false,
         Answer::Closed => false,
         Answer::No(_) => false,
-        Answer::Assoc {
-            node: _,
-            out: _,
-            peer: _,
-            spi: _,
-            users: _,
-        } => false,
-        Answer::End => false,
     }
 }
 

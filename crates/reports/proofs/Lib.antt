@@ -1,3 +1,3 @@
 -- Laws that belong to no one function.
-pub mod Lines
+pub mod Puts
 pub mod Shown

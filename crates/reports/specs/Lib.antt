@@ -1,3 +1,2 @@
--- What the contracts of `reports` cite: `Report` that of the public function, `Lines` those of private ones.
-pub mod Lines
-pub mod Report
+-- What the contracts of private functions of `reports` cite; that of the public one is `Writes` of `answers`.
+pub mod Puts

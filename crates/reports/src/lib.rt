@@ -1,76 +1,93 @@
-// The lines that answer a call, written into the lent output: show's report, or the one answer.
-mod line;
+// The lines that answer a call, written into the lent output: a report's, or that of the one answer.
+mod network;
 mod show;
 
-use crate::line::put_answer;
+use crate::network::put_network;
 use crate::show::put_shown;
+use answers::room::has_room;
+use answers::write::write;
 use calculus::answer::Answer;
+use calculus::network::Network;
+use calculus::request::Report;
 use calculus::request::Request;
 use forms::read::Parsed;
 ghost use mathlib.Core.Path.{_≡_};
+ghost use Prim.Native.Nat.{_+_, _≤_};
+ghost use lib.ListN.{length};
+ghost use Rattle.model.specs.Calls.{linesText};
 ghost use Rattle.model.specs.Turn as turns;
-ghost use Rattle.reports.specs.Report.{hasRoom, Reports};
+ghost use Rattle.answers.specs.Write.{Writes};
+ghost use Rattle.reports.specs.Puts.{Puts};
 
 // No call's lines have more bytes.
 const ROOM: usize = 65536;
 
-fn is_show_request(q: Request) -> bool
-    ensures { λ r. ⌜ r ≡ turns.isShowRequest q ⌝ }
+fn report_in(q: Request) -> Report
+    ensures { λ r. ⌜ r ≡ turns.reportIn q ⌝ }
 {
     match q {
-        Request::Node(_, _) => false,
+        Request::Node(_, _) => Report::OneAnswer,
         Request::Route {
             at: _,
             destination: _,
             next: _,
-        } => false,
+        } => Report::OneAnswer,
         Request::Open {
             session: _,
             client: _,
             server: _,
-        } => false,
-        Request::Step(_, _) => false,
-        Request::Send(_, _, _) => false,
-        Request::Close(_) => false,
-        Request::Show => true,
+        } => Report::OneAnswer,
+        Request::Step(_, _) => Report::OneAnswer,
+        Request::Send(_, _, _) => Report::OneAnswer,
+        Request::Close(_) => Report::OneAnswer,
+        Request::Show => Report::AllAssociations,
+        Request::Net => Report::WholeNetwork,
     }
 }
 
-fn is_show(p: Parsed) -> bool
-    ensures { λ r. ⌜ r ≡ turns.isShow p ⌝ }
+fn report_of(p: Parsed) -> Report
+    ensures { λ r. ⌜ r ≡ turns.reportOf p ⌝ }
 {
     match p {
-        Parsed::Asks(q) => is_show_request(q),
-        Parsed::Refused(_) => false,
+        Parsed::Asks(q) => report_in(q),
+        Parsed::Refused(_) => Report::OneAnswer,
     }
 }
 
-// Whether the lines of any call fit from `at` on.
-fn has_room(size: usize, at: usize) -> bool
-    ensures { λ r. ⌜ r ≡ hasRoom size at ⌝ }
-{
-    if size < ROOM {
-        return false;
-    }
-    at <= size - ROOM
-}
-
-// Writes the lines that answer what was read, show's or the one of `answer`, from `at` on, and answers the place behind them;
-// where fewer than 65,536 bytes are left there, writes nothing and answers `at`.
-pub fn put_answers(
+// The caller has made sure of the room.
+fn put_lines(
     out: &mut [u8],
     at: usize,
+    n: Network,
+    users: &[u16; 2048],
+    answer: Answer,
+    report: Report,
+) -> usize
+    requires { ⌜ at + 65536 ≤ length (now out) ⌝ }
+    ensures { λ r. ⌜ Puts 65536 (now (out .entry)) at (linesText (turns.linesAs n (now (users .entry)) answer report)) (now (out .exit)) r ⌝ }
+{
+    match report {
+        Report::OneAnswer => write(out, at, answer),
+        Report::AllAssociations => put_shown(out, at, users),
+        Report::WholeNetwork => put_network(out, at, n),
+    }
+}
+
+// Writes the lines that answer what was read, a report's or that of `answer`, from `at` on, and answers the place behind them;
+// where fewer than 65,536 bytes are left there, writes nothing and answers `at`.
+pub fn write_lines(
+    out: &mut [u8],
+    at: usize,
+    n: Network,
     users: &[u16; 2048],
     p: Parsed,
     answer: Answer,
 ) -> usize
-    ensures { λ r. ⌜ Reports (now (out .entry)) at (turns.answersOf (now (users .entry)) p answer) (now (out .exit)) r ⌝ }
+    ensures { λ r. ⌜ Writes 65536 (now (out .entry)) at (linesText (turns.linesAs n (now (users .entry)) answer (turns.reportOf p))) (now (out .exit)) r ⌝ }
 {
-    if has_room(out.len(), at) {
-        if is_show(p) {
-            return put_shown(out, at, users);
-        }
-        return put_answer(out, at, answer);
+    if has_room(out.len(), at, ROOM) {
+        let report = report_of(p);
+        return put_lines(out, at, n, users, answer, report);
     }
     at
 }

@@ -1,15 +1,19 @@
-// Show's report. The caller has made sure of the room: an association's line has at most 29 bytes, so 32 of them have 928, and an
-// answer is written where 32 bytes are left.
-use crate::line::put_answer;
-use calculus::answer::Answer;
+// Show's report. The caller has made sure of the room: an association's line has at most 29 bytes, so 32 of them have 928, and a
+// line is written where 32 bytes are left.
+use answers::report::write_association;
+use answers::report::write_end;
+use calculus::answer::Association;
 use calculus::number::Spi;
 ghost use mathlib.Core.Path.{_≡_};
-ghost use mathlib.Core.List.{[], _∷_};
+ghost use mathlib.Core.List.{map};
 ghost use Prim.Native.Nat.{_+_, _*_, _≤_, _<_};
 ghost use lib.ListN.{length, drop};
+ghost use Rattle.calculus.specs.Table.{entriesFrom};
+ghost use Rattle.forms.specs.Bytes.{joined};
+ghost use Rattle.forms.specs.Answer.{associationLine};
 ghost use Rattle.model.specs.Row as row;
 ghost use Rattle.model.specs.Requests as spec;
-ghost use Rattle.reports.specs.Lines.{Puts};
+ghost use Rattle.reports.specs.Puts.{Puts};
 
 // The SPI of In(a, q), or of Out(a, q).
 fn spi_of(outward: bool, a: u8, q: u8) -> Spi
@@ -24,18 +28,18 @@ fn spi_of(outward: bool, a: u8, q: u8) -> Spi
 // The line of a's association with the peer q, which has n users, if it stands.
 fn put_peer(out: &mut [u8], at: usize, outward: bool, a: u8, q: u8, n: u16) -> usize
     requires { ⌜ (a ≤ 32) × (q ≤ 32) × (at + 32 ≤ length (now out)) ⌝ }
-    ensures { λ r. ⌜ Puts 29 (now (out .entry)) at (spec.peerLines outward a q (n ∷ [])) (now (out .exit)) r ⌝ }
+    ensures { λ r. ⌜ Puts 29 (now (out .entry)) at (joined (map associationLine (spec.association outward a q n))) (now (out .exit)) r ⌝ }
 {
     if 0 < n {
         let spi = spi_of(outward, a, q);
-        let line = Answer::Assoc {
+        let association = Association {
             node: a,
             out: outward,
             peer: q,
             spi,
             users: n,
         };
-        return put_answer(out, at, line);
+        return write_association(out, at, association);
     }
     at
 }
@@ -43,7 +47,7 @@ fn put_peer(out: &mut [u8], at: usize, outward: bool, a: u8, q: u8, n: u16) -> u
 // The lines of a's associations with the peers 1, 2, .. in this direction, whose users are lent.
 fn put_peers(out: &mut [u8], at: usize, outward: bool, a: u8, users: &[u16]) -> usize
     requires { ⌜ (a ≤ 32) × (length (now users) ≤ 32) × (at + 960 ≤ length (now out)) ⌝ }
-    ensures { λ r. ⌜ Puts 928 (now (out .entry)) at (spec.peerLines outward a 1 (now (users .entry))) (now (out .exit)) r ⌝ }
+    ensures { λ r. ⌜ Puts 928 (now (out .entry)) at (joined (map associationLine (entriesFrom (spec.association outward a) 1 (now (users .entry))))) (now (out .exit)) r ⌝ }
 {
     let mut next = at;
     let mut i: usize = 0;
@@ -58,7 +62,7 @@ fn put_peers(out: &mut [u8], at: usize, outward: bool, a: u8, users: &[u16]) -> 
 // The lines of the associations of the node whose place is i: in, then out, each by peer.
 fn put_node(out: &mut [u8], at: usize, i: usize, users: &[u16]) -> usize
     requires { ⌜ (i < 32) × (length (now users) ≡ 2048) × (at + 1920 ≤ length (now out)) ⌝ }
-    ensures { λ r. ⌜ Puts 1856 (now (out .entry)) at (spec.nodeLines 1 (i + 1) (drop (64 * i) (now (users .entry)))) (now (out .exit)) r ⌝ }
+    ensures { λ r. ⌜ Puts 1856 (now (out .entry)) at (joined (map associationLine (spec.associations 1 (i + 1) (drop (64 * i) (now (users .entry)))))) (now (out .exit)) r ⌝ }
 {
     let a = i as u8 + 1;
     let from = 64 * i;
@@ -69,7 +73,7 @@ fn put_node(out: &mut [u8], at: usize, i: usize, users: &[u16]) -> usize
 // The lines of all nodes' associations.
 fn put_nodes(out: &mut [u8], at: usize, users: &[u16]) -> usize
     requires { ⌜ (at + 65536 ≤ length (now out)) × (length (now users) ≡ 2048) ⌝ }
-    ensures { λ r. ⌜ Puts 59392 (now (out .entry)) at (spec.nodeLines 32 1 (now (users .entry))) (now (out .exit)) r ⌝ }
+    ensures { λ r. ⌜ Puts 59392 (now (out .entry)) at (joined (map associationLine (spec.associations 32 1 (now (users .entry))))) (now (out .exit)) r ⌝ }
 {
     let mut next = at;
     let mut i: usize = 0;
@@ -83,8 +87,8 @@ fn put_nodes(out: &mut [u8], at: usize, users: &[u16]) -> usize
 // One line for each standing association, then `(end)`.
 pub fn put_shown(out: &mut [u8], at: usize, users: &[u16; 2048]) -> usize
     requires { ⌜ at + 65536 ≤ length (now out) ⌝ }
-    ensures { λ r. ⌜ Puts 65536 (now (out .entry)) at (spec.shown (now (users .entry))) (now (out .exit)) r ⌝ }
+    ensures { λ r. ⌜ Puts 65536 (now (out .entry)) at (joined (spec.shownLines (now (users .entry)))) (now (out .exit)) r ⌝ }
 {
     let next = put_nodes(out, at, users);
-    put_answer(out, next, Answer::End)
+    write_end(out, next)
 }

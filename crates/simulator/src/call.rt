@@ -41,14 +41,6 @@ fn status_of(answer: Answer) -> Status
         Answer::Delivered(_) => Status::Answered,
         Answer::Closed => Status::Answered,
         Answer::No(r) => Status::Refused(r),
-        Answer::Assoc {
-            node: _,
-            out: _,
-            peer: _,
-            spi: _,
-            users: _,
-        } => Status::Answered,
-        Answer::End => Status::Answered,
     }
 }
 

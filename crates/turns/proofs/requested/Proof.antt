@@ -33,6 +33,10 @@ returns-7 : tie.Need-returns-7
 unfolding requestedOf usersWith
 returns-7 c = rw (c .before .enum-told2 .given .1) (c .staying3 .ensures, refl)
 
+returns-8 : tie.Need-returns-8
+unfolding requestedOf usersWith
+returns-8 c = rw (c .before .enum-told3 .given .1) (c .staying4 .ensures, refl)
+
 pub requested-spec : {M : Type 1} → statement M
 requested-spec =
     tie.close
@@ -53,10 +57,13 @@ requested-spec =
     (λ c κs. search needs)
     (λ c. search needs)
     (λ c κs. search needs)
+    (λ c. search needs)
+    (λ c κs. search needs)
     returns
     returns-2
     returns-3
     returns-4
     returns-5
     returns-6
-    returns-7)
+    returns-7
+    returns-8)

@@ -63,21 +63,25 @@ module _ (t : ℕ) where
 
   put-byte-requires-2 : lts.Need-put-byte-requires-2 (claims t) (put-number-at t) put-number.Post
   put-byte-requires-2 c κs =
-      omega (arith, width-large (c .before .before .before .before .before .before .before .before .args .n) (c .before .before .before .before .before .before .if1 .left))
+      let c₆ = c .before .before .before .before .before .before in
+      omega (arith, width-large (c₆ .before .before .args .n) (c₆ .if1 .left))
 
   same-length : lts.Need-same-length (claims t) (put-number-at t) put-number.Post
   same-length c = search needs
 
   returns : lts.Need-returns (claims t) (put-number-at t) put-number.Post
-  returns c = put-small (c .before .before .before .before .before .if1 .taken) (c .before .before .before .before .digit .ensures) (c .before .before .put-byte .ensures)
+  returns c =
+      let c₄ = c .before .before .before .before in
+      put-small (c₄ .before .if1 .taken) (c₄ .digit .ensures) (c .before .before .put-byte .ensures)
 
   same-length-2 : lts.Need-same-length-2 (claims t) (put-number-at t) put-number.Post
   same-length-2 c = search needs
 
   returns-2 : lts.Need-returns-2 (claims t) (put-number-at t) put-number.Post
   returns-2 c =
-      put-large (c .before .before .before .before .before .before .before .before .before .if1 .left) (c .before .before .before .before .before .before .before .put-number .ensures)
-      (c .before .before .before .before .digit2 .ensures) (c .before .before .put-byte2 .ensures)
+      let c₄ = c .before .before .before .before in
+      let c₇ = c₄ .before .before .before in
+      put-large (c₇ .before .before .if1 .left) (c₇ .put-number .ensures) (c₄ .digit2 .ensures) (c .before .before .put-byte2 .ensures)
 
 pub +put-number-spec : {M : Type 1} → statement M
 +put-number-spec = close μ-put-number λ t. lts.spec (claims t)

@@ -1,4 +1,5 @@
--- `put::put_numbers` meets its contract. The loop's invariant: what is left to be put is the text of the numbers from i on. Assumes nothing.
+-- `put::put_numbers` meets its contract. The loop's invariant: what is left to be put is the text of the numbers from i on.
+-- Assumes nothing.
 use mathlib.Core.Path.{_≡_}
 use mathlib.Core.List.{List, _++_}
 use Prim.Native.Nat.{ℕ, _+_, _-_, _≤_, _<_}

@@ -2,7 +2,7 @@
 use native.Mathlib.Omega.{arith}
 use borrow.Author.Needs.{needs}
 use Rattle.forms.specs.Answer.{answerText}
-use Rattle.answers.proofs.Widths.{line-one, line-two, assoc-whole}
+use Rattle.answers.proofs.Widths.{line-one, line-two}
 use Rattle.answers.proofs.write.put_answer.Statement.{statement}
 use Rattle.answers.proofs.write.put_answer.Tie as tie
 
@@ -26,15 +26,6 @@ put-one-requires-3 c κs =
 
 put-one-requires-4 : tie.Need-put-one-requires-4
 put-one-requires-4 c κs = omega (arith, line-one (c .number2 .result) (omega arith))
-
-put-assoc-requires : tie.Need-put-assoc-requires
-put-assoc-requires c κs =
-    let v = c .before .before .before .before .answer6 .given .0 in
-    omega (
-      arith,
-      assoc-whole (v .0) (v .1 .0) (v .1 .1 .0) (v .1 .1 .1 .0 .0) (v .1 .1 .1 .1 .0)
-          (omega arith) (omega arith) (omega arith) (omega arith),
-    )
 
 returns : tie.Need-returns
 unfolding answerText
@@ -94,18 +85,6 @@ returns-9 c =
     rw (c₇ .answer5 .given .1, ← c₃ .number2 .ensures)
     (c .before .before .put-one4 .ensures)
 
-returns-10 : tie.Need-returns-10
-unfolding answerText
-returns-10 c =
-    let c₇ = c .before .before .before .before .before .before .before in
-    rw (c₇ .answer6 .given .1) (c .before .before .put-assoc .ensures)
-
-returns-11 : tie.Need-returns-11
-unfolding answerText
-returns-11 c =
-    let c₅ = c .before .before .before .before .before in
-    rw (c₅ .enum-told5 .given .1) (c .before .before .put-word5 .ensures)
-
 -- what has no name above is found by search
 pub put-answer-spec : {M : Type 1} → statement M
 put-answer-spec =
@@ -148,15 +127,6 @@ put-answer-spec =
     (λ c. search needs)
     put-one-requires-4
     (λ c. search needs)
-    (λ c. search needs)
-    (λ c. search needs)
-    (λ c. search needs)
-    (λ c. search needs)
-    put-assoc-requires
-    (λ c. search needs)
-    (λ c. search needs)
-    (λ c κs. search needs)
-    (λ c. search needs)
     returns
     (λ c. search needs)
     returns-2
@@ -173,8 +143,4 @@ put-answer-spec =
     (λ c. search needs)
     returns-8
     (λ c. search needs)
-    returns-9
-    (λ c. search needs)
-    returns-10
-    (λ c. search needs)
-    returns-11)
+    returns-9)

@@ -3,7 +3,7 @@ use mathlib.Core.Path.{_≡_}
 use Prim.Native.Nat.{_+_, _-_, _*_}
 use native.Mathlib.Omega.{arith}
 use borrow.Author.Needs.{needs}
-use Rattle.reports.proofs.Lines.{puts-append, puts-size}
+use Rattle.reports.proofs.Puts.{puts-append, puts-size}
 use Rattle.reports.proofs.Shown.{node-one}
 use Rattle.reports.proofs.show.put_node.Statement.{statement}
 use Rattle.reports.proofs.show.put_node.Tie as tie

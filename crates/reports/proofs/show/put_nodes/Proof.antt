@@ -4,21 +4,21 @@ use Prim.Native.Nat.{_-_, _*_, _≤_}
 use native.Mathlib.Numerals.{add-one}
 use native.Mathlib.Omega.{arith}
 use borrow.Author.Needs.{needs}
-use Rattle.model.specs.Requests.{nodeLines}
-use Rattle.reports.specs.Lines.{Puts}
-use Rattle.reports.proofs.Lines.{puts-none, puts-append, puts-size}
-use Rattle.reports.proofs.Shown.{nodes-next}
+use Rattle.model.specs.Requests.{associations}
+use Rattle.reports.specs.Puts.{Puts}
+use Rattle.reports.proofs.Puts.{puts-none, puts-append, puts-size}
+use Rattle.reports.proofs.Shown.{texts, nodes-next}
 use Rattle.reports.proofs.show.put_nodes.Statement.{statement}
 use Rattle.reports.proofs.show.put_nodes.Tie as tie
 
 abbrev Inv-loop : tie.InvT-loop
-Inv-loop out₀ at users next₀ i₀ out next i = (i ≤ 32) × Puts (1856 * i) out₀ at (nodeLines i 1 users) out next
+Inv-loop out₀ at users next₀ i₀ out next i = (i ≤ 32) × Puts (1856 * i) out₀ at (texts (associations i 1 users)) out next
 
 abbrev μ-loop : tie.MeasureT-loop
 μ-loop out₀ at users next₀ i₀ out next i = 32 - i
 
 loop-holds : tie.Need-loop-holds Inv-loop μ-loop
-unfolding nodeLines
+unfolding associations
 loop-holds c = (omega arith, puts-none)
 
 put-node-requires : tie.Need-put-node-requires Inv-loop μ-loop

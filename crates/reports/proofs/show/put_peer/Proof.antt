@@ -1,26 +1,23 @@
 -- `show::put_peer` meets its contract: the line is written where there are users, and has at most 29 bytes. Assumes nothing.
-use mathlib.Core.List.{append-nil}
 use native.Mathlib.Omega.{arith}
 use borrow.Author.Needs.{needs}
 use borrow.Author.Tests.{lt-ltb, le-ltb}
-use Rattle.model.specs.Requests.{peerLines}
+use Rattle.forms.specs.Answer.{associationLine}
 use Rattle.model.proofs.ShowLines.{line-width}
-use Rattle.reports.proofs.Lines.{puts-none, puts-few}
+use Rattle.reports.proofs.Puts.{puts-written, puts-few, puts-only, puts-skip}
 use Rattle.reports.proofs.show.put_peer.Statement.{statement}
 use Rattle.reports.proofs.show.put_peer.Tie as tie
 
 returns : tie.Need-returns
-unfolding peerLines
 returns c =
     let c₄ = c .before .before .before .before in
     let x = c₄ .before .before .before .args in
-    rw (lt-ltb _ _ (c₄ .before .if1 .taken))
-    (puts-few (rw (c₄ .spi-of .ensures) at (c .before .before .put-answer .ensures))
-    (rw append-nil (line-width (x .outward) (x .a) (x .q) (x .n) (omega arith) (omega arith) (omega arith))))
+    puts-only associationLine _ (lt-ltb _ _ (c₄ .before .if1 .taken))
+    (puts-few (puts-written (omega arith) (rw (c₄ .spi-of .ensures) at (c .before .before .write-association .ensures)))
+    (line-width (x .outward) (x .a) (x .q) (x .n) (omega arith) (omega arith) (omega arith)))
 
 returns-2 : tie.Need-returns-2
-unfolding peerLines
-returns-2 c = rw (le-ltb _ _ (c .if1 .left)) puts-none
+returns-2 c = puts-skip associationLine _ (le-ltb _ _ (c .if1 .left))
 
 pub put-peer-spec : {M : Type 1} → statement M
 put-peer-spec =

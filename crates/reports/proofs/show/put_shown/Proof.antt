@@ -1,21 +1,21 @@
 -- `show::put_shown` meets its contract: 59,392 bytes leave room for `(end)`. Assumes nothing.
+use mathlib.Core.List.{[], _∷_, map, append-nil}
 use native.Mathlib.Omega.{arith}
 use borrow.Author.Needs.{needs}
-use Rattle.model.specs.Requests.{shown}
-use Rattle.reports.proofs.Lines.{puts-append, puts-size}
+use Rattle.forms.specs.Answer.{associationLine, endLine}
+use Rattle.forms.proofs.Joined.{joined-append}
+use Rattle.model.specs.Requests.{associations, shown}
+use Rattle.reports.proofs.Puts.{puts-written, puts-append, puts-size}
 use Rattle.reports.proofs.show.put_shown.Statement.{statement}
 use Rattle.reports.proofs.show.put_shown.Tie as tie
-
-put-answer-requires : tie.Need-put-answer-requires
-put-answer-requires c κs =
-    let x = c .before .before .before .put-nodes .ensures in
-    omega (arith, puts-size x)
 
 returns : tie.Need-returns
 unfolding shown
 returns c =
     let c₆ = c .before .before .before .before .before .before in
-    puts-append (c₆ .put-nodes .ensures) (c .before .before .put-answer .ensures) (omega arith)
+    let x = c₆ .put-nodes .ensures in
+    rw (joined-append (map associationLine (associations 32 1 (c₆ .before .before .before .before .args .users .now))) (endLine ∷ []), append-nil)
+    (puts-append x (puts-written (omega (arith, x .few, x .put .place, puts-size x)) (c .before .before .write-end .ensures)) (omega arith))
 
 pub put-shown-spec : {M : Type 1} → statement M
-put-shown-spec = tie.close (tie.spec (λ c κs. search needs) put-answer-requires (λ c. search needs) returns)
+put-shown-spec = tie.close (tie.spec (λ c κs. search needs) (λ c κs. search needs) (λ c. search needs) returns)
