@@ -21,14 +21,14 @@ use Rattle.forms.specs.Read.{read}
 use Rattle.forms.specs.Request.{asked}
 use Rattle.forms.proofs.Splits.{Inside, line-inside}
 use Rattle.model.specs.Batch.{Batch, isOver, isOverAt, isLast, nextCall, oneMore, answeredLines, answeredText}
-use Rattle.model.specs.Calls.{Reply, answered, repliedTo, linesOf, outputAfter}
-use Rattle.model.specs.Turn.{sessionOf, turnOf, usersOf, isOk, networkOf, answersOf, Parts, Held}
+use Rattle.model.specs.Calls.{Reply, answered, repliedTo, linesText, linesOf, outputAfter}
+use Rattle.model.specs.Turn.{sessionOf, turnOf, usersOf, isOk, networkOf, reportOf, linesAs, Parts, Held}
 use Rattle.model.proofs.Batch.{lines-over, lines-more}
 use Rattle.model.proofs.Parts.{Sized, Whole, Numbered}
 use Rattle.model.proofs.Turns.{Further, held-further, held-whole}
-use Rattle.reports.specs.Lines.{Puts}
-use Rattle.reports.specs.Report.{Reports}
-use Rattle.reports.proofs.Lines.{puts-size, put-reports}
+use Rattle.answers.specs.Write.{Writes}
+use Rattle.reports.specs.Puts.{Puts}
+use Rattle.reports.proofs.Puts.{puts-written, puts-size}
 use Rattle.simulator.specs.Batch.{Answers}
 use Rattle.simulator.proofs.Range.{asked-session}
 
@@ -94,7 +94,7 @@ reads-numbered {text} {from} {stop} x = rw (x .same) (within-bounds 1 8 _ (asked
 -- the line is a call: its answers, put into the output, are those of the call
 module _ (s : State) (text out : List ℕ) (from written stop next : ℕ) (r : Reading) where
   one-more : ltb (length out - written) 65536 ≡ false → Reads text from stop r
-      → {most : ℕ} {out′ : List ℕ} {written′ : ℕ} → Puts most out written (repliedTo s r .answers) out′ written′ → written + most ≤ length out
+      → {most : ℕ} {out′ : List ℕ} {written′ : ℕ} → Puts most out written (linesOf (repliedTo s r)) out′ written′ → written + most ≤ length out
       → oneMore text (reached s out from written) (Found stop next) ≡ reached (repliedTo s r .state) out′ next written′
   unfolding oneMore answered
   one-more h e p fits =
@@ -110,7 +110,7 @@ module _ {s : State} {text out₀ out : List ℕ} {parts : List Part} {opened : 
       → m ≡ turnOf opened n users (getD parts (u - 1) z) (r .parsed) → left ≡ usersOf n users (getD parts (u - 1) z) (r .parsed)
       → Whole (m .part) → (opened′ : Bool) → opened′ ≡ (m .opens || opened)
       → (n′ : Network) → n′ ≡ cond (isOk (m .answer)) (networkOf n (r .has) (r .needs) (r .parsed)) n → {out′ : List ℕ} {written′ : ℕ}
-      → Reports out written (answersOf left (r .parsed) (m .answer)) out′ written′
+      → Writes 65536 out written (linesText (linesAs n left (m .answer) (reportOf (r .parsed)))) out′ written′
       → Answering s text out₀ out′ (set parts (u - 1) (m .part)) opened′ n′ left next written′ going
   answering-more up {stop} {next} f r reads u eu m left z em el hm opened′ eo n′ en {out′} {written′} p = go (w .fuel) (w .same) (w .enough)
     where
@@ -123,8 +123,8 @@ module _ {s : State} {text out₀ out : List ℕ} {parts : List Part} {opened : 
       fits : written + 65536 ≤ length out
       fits = omega (arith, f .roomy)
 
-      puts : Puts 65536 out written (repliedTo (w .state) r .answers) out′ written′
-      puts = rw (further .answers) (put-reports fits p)
+      puts : Puts 65536 out written (linesOf (repliedTo (w .state) r)) out′ written′
+      puts = rw (further .lines) (puts-written fits p)
 
       one : oneMore text (reached (w .state) out from written) (Found stop next) ≡ reached (repliedTo (w .state) r .state) out′ next written′
       one = one-more (w .state) text out from written stop next r (or-false _ _ (f .goes-on)) reads puts fits

@@ -16,19 +16,19 @@ use Rattle.forms.specs.Read.{read}
 use Rattle.forms.specs.Request.{asked}
 use Rattle.model.specs.State.{load, store}
 use Rattle.model.specs.Calls as calls
-use Rattle.model.specs.Calls.{answered, refusalIn, linesOf}
-use Rattle.model.specs.Turn.{sessionOf, turnOf, usersOf, isOk, networkOf, answersOf, stateWith}
+use Rattle.model.specs.Calls.{answered, refusalIn, linesText, linesOf}
+use Rattle.model.specs.Turn.{sessionOf, turnOf, usersOf, isOk, networkOf, reportOf, linesAs, stateWith}
 use Rattle.model.proofs.Turns.{replyOf, turn-whole}
-use Rattle.reports.specs.Report.{Reports}
-use Rattle.reports.proofs.Lines.{put-reports}
+use Rattle.answers.specs.Write.{Writes}
+use Rattle.reports.proofs.Puts.{puts-written}
 use Rattle.simulator.specs.declared.call.Status.{Status}
 use Rattle.simulator.specs.Reply.{statusOf, Replies}
 
 -- a reply whose lines are put at the front
-replies : {out left : List ℕ} {n : ℕ} (m : calls.Reply) → 65536 ≤ length out → Reports out 0 (m .answers) left n
+replies : {out left : List ℕ} {n : ℕ} (m : calls.Reply) → 65536 ≤ length out → Writes 65536 out 0 (linesOf m) left n
     → Replies out m left (record { state = m .state; written = n; status = statusOf (m .refusal) })
 replies {out} {n = n} m h r =
-    let p = put-reports h r in
+    let p = puts-written h r in
     let e : n ≡ length (linesOf m) = omega (arith, p .put .place) in
     record {
       reply = rw e;
@@ -43,7 +43,7 @@ module _ (s : State) (line : List ℕ) (r : Reading) (er : r ≡ asked (read lin
   unfolding answered
   answered-turn size h = rw (le-ltb size 65536 h, ← er, em, el, eu) (turn-whole s r)
 
-  pub replied : {out left : List ℕ} → 65536 ≤ length out → {written : ℕ} → Reports out 0 (answersOf users (r .parsed) (m .answer)) left written
+  pub replied : {out left : List ℕ} → 65536 ≤ length out → {written : ℕ} → Writes 65536 out 0 (linesText (linesAs (s .network) users (m .answer) (reportOf (r .parsed)))) left written
       → (next : State) → next ≡ store s u (m .part) → (opened : Bool) → opened ≡ (m .opens || s .opened)
       → (n : Network) → n ≡ cond (isOk (m .answer)) (networkOf (s .network) (r .has) (r .needs) (r .parsed)) (s .network)
       → (status : Status) → status ≡ statusOf (refusalIn (m .answer))

@@ -4,7 +4,7 @@ use calculus::answer::Refusal;
 use calculus::state::State;
 use forms::read::read;
 use networks::after::network_after;
-use reports::put_answers;
+use reports::write_lines;
 use tables::part::load;
 use tables::part::store;
 use turns::is_opened;
@@ -65,7 +65,7 @@ pub fn call(s: State, line: &[u8], out: &mut [u8]) -> Reply
     let moved = turn(s.opened, before, &mut users, part, parsed);
     let answer = moved.answer;
     let left = moved.part;
-    let written = put_answers(out, 0, &users, parsed, answer);
+    let written = write_lines(out, 0, before, &users, parsed, answer);
     let status = status_of(answer);
     let opened = is_opened(moved.opens, s.opened);
     let network = network_after(before, reading, answer);

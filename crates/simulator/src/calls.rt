@@ -5,7 +5,7 @@ use forms::line::Line;
 use forms::read::read;
 use lines::line_at;
 use networks::after::network_after;
-use reports::put_answers;
+use reports::write_lines;
 use tables::part::pack;
 use tables::part::unpack;
 use turns::is_opened;
@@ -69,7 +69,7 @@ pub fn calls(s: State, text: &[u8], out: &mut [u8]) -> Answered
                 let left = moved.part;
                 parts[at] = left;
                 opened = is_opened(moved.opens, opened);
-                written = put_answers(out, written, &users, parsed, answer);
+                written = write_lines(out, written, network, &users, parsed, answer);
                 network = network_after(network, reading, answer);
                 from = next;
             }

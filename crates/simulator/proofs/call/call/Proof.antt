@@ -31,7 +31,7 @@ returns-2 c =
     let part = rw (numbered c₁₅) at (c₁₂ .load .ensures) in
     replied (x .s) (x .line .now) (c₁₆ .read .result) (c₁₆ .read .ensures) (c₁₅ .session-of .result .0) (rw (c₁₅ .session-of .ensures))
     (c₁₀ .turn .result) (c₁₀ .turn .last .1 .1 .0) (rw (← part) (c₁₀ .turn .ensures .0)) (rw (← part) (c₁₀ .turn .ensures .1))
-    (c₁₆ .before .if1 .left) (c₆ .put-answers .ensures) (c .store .result) (rw (numbered c₁₅) at (c .store .ensures)) (c₂ .is-opened .result)
+    (c₁₆ .before .if1 .left) (c₆ .write-lines .ensures) (c .store .result) (rw (numbered c₁₅) at (c .store .ensures)) (c₂ .is-opened .result)
     (c₂ .is-opened .ensures) (c .before .network-after .result) (c .before .network-after .ensures) (c₂ .before .status-of .result)
     (c₂ .before .status-of .ensures)
 

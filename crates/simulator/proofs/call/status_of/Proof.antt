@@ -27,8 +27,4 @@ status-of-spec =
     (λ c. search needs)
     (λ c. search needs)
     (λ c. search needs)
-    (λ c. search needs)
-    (λ c. search needs)
-    returns-9
-    (λ c. search needs)
-    (λ c. search needs))
+    returns-9)

@@ -52,7 +52,7 @@ loop-again c =
     answering-more (c₁₉ .before .loop .inv) (c₁₉ .loop-test .taken) (found c₁₆) (c₁₃ .read .result) (reads c₁₃) (c₁₂ .session-of .result .0)
     (rw (c₁₂ .session-of .ensures)) (c₈ .turn .result) (c₈ .turn .last .1 .1 .0) _ (c₈ .turn .ensures .0) (c₈ .turn .ensures .1)
     (part-whole (c₈ .turn .result .part) _ (c₈ .turn .ok .1 .1 .1 .1 .0)) (c₆ .is-opened .result) (c₆ .is-opened .ensures)
-    (c .network-after .result) (c .network-after .ensures) (c₃ .put-answers .ensures)
+    (c .network-after .result) (c .network-after .ensures) (c₃ .write-lines .ensures)
 
 loop-again-2 : tie.Need-loop-again-2 Inv-loop μ-loop
 loop-again-2 c = answering-over (c .before .before .before .before .loop .inv) (join (c .before .before .next-call .ensures) (c .enum-told .given .1))
