@@ -22,6 +22,7 @@ pub enum Form {
     Send { session: u64, side: u64, tag: u64 },
     Close { session: u64 },
     Show,
+    Net,
 }
 
 impl Form {
@@ -47,6 +48,7 @@ impl Form {
             }
             ["close", session] => Form::Close { session: number(session)? },
             ["show"] => Form::Show,
+            ["net"] => Form::Net,
             _ => return None,
         })
     }
@@ -64,7 +66,7 @@ impl Form {
                 SESSIONS.contains(session) && SIDES.contains(side) && TAGS.contains(tag)
             }
             Form::Close { session } => SESSIONS.contains(session),
-            Form::Show => true,
+            Form::Show | Form::Net => true,
         }
     }
 
@@ -75,7 +77,7 @@ impl Form {
             | Form::Step { session, .. }
             | Form::Send { session, .. }
             | Form::Close { session } => Some(*session).filter(|session| SESSIONS.contains(session)),
-            Form::Node { .. } | Form::Route { .. } | Form::Show => None,
+            Form::Node { .. } | Form::Route { .. } | Form::Show | Form::Net => None,
         }
     }
 }

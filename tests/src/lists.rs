@@ -2,9 +2,10 @@
 //! what is pending there.
 
 use crate::damage::damaged;
+use crate::network::{route_form, Node};
 use crate::random::Random;
 use crate::simulator::Simulator;
-use crate::topology::{node_call, Topology};
+use crate::topology::Topology;
 use std::collections::BTreeSet;
 
 /// Calls, without newlines, and the second implementation's answers.
@@ -214,7 +215,7 @@ impl Generator {
     fn any_node(&mut self) -> String {
         let mut credentials = || (0..self.random.below(4)).map(|_| self.random.below(65)).collect::<BTreeSet<_>>();
         let (has, needs) = (credentials(), credentials());
-        node_call(1 + self.random.below(32), self.random.one_in(2), &has, &needs)
+        Node { gateway: self.random.one_in(2), has, needs }.form(1 + self.random.below(32))
     }
 
     fn any_route(&mut self) -> String {
@@ -222,7 +223,7 @@ impl Generator {
             0 => 1 + self.random.below(32),
             _ => self.random.pick(&self.topology.nodes),
         };
-        format!("(route {} {} {})", node(), node(), node())
+        route_form(node(), node(), node())
     }
 
     /// A form with numbers from the edges of the ranges.

@@ -77,6 +77,7 @@ impl Simulator {
             Form::Send { session, side, tag } => self.send(session, side, tag),
             Form::Close { session } => self.close(session),
             Form::Show => Ok(self.show()),
+            Form::Net => Ok(self.network.forms()),
         }
     }
 

@@ -1,5 +1,6 @@
 //! Random networks, as the node and route calls that give them.
 
+use crate::network::{route_form, Node};
 use crate::random::Random;
 use std::collections::BTreeSet;
 
@@ -83,15 +84,9 @@ fn node_calls(random: &mut Random, nodes: &[u64], gateways: &[bool]) -> Vec<Stri
             1 => (subset(1), subset(2)),
             _ => Default::default(),
         };
-        node_call(node, gateway, &has, &needs)
+        Node { gateway, has, needs }.form(node)
     };
     nodes.iter().zip(gateways).map(call).collect()
-}
-
-pub fn node_call(node: u64, gateway: bool, has: &BTreeSet<u64>, needs: &BTreeSet<u64>) -> String {
-    let list = |set: &BTreeSet<u64>| set.iter().map(|credential| format!(" {credential}")).collect::<String>();
-    let kind = if gateway { "gate" } else { "host" };
-    format!("(node {node} {kind} (has{}) (needs{}))", list(has), list(needs))
 }
 
 fn route_calls(random: &mut Random, shape: Shape, nodes: &[u64]) -> Vec<String> {
@@ -109,7 +104,7 @@ fn route_calls(random: &mut Random, shape: Shape, nodes: &[u64]) -> Vec<String> 
             if astray {
                 next = random.index(nodes.len());
             }
-            calls.push(format!("(route {} {} {})", nodes[at], nodes[destination], nodes[next]));
+            calls.push(route_form(nodes[at], nodes[destination], nodes[next]));
         }
     }
     calls
