@@ -17,6 +17,12 @@ fn is_association(line: &[u8]) -> bool {
     line.starts_with(b"(assoc ")
 }
 
+/// Whether it is a line of the network's text: no other answer has such lines.
+pub fn is_network(line: impl AsRef<[u8]>) -> bool {
+    let line = line.as_ref();
+    line.starts_with(b"(node ") || line.starts_with(b"(route ")
+}
+
 /// The first line that differs: its index and what was expected and written there.
 pub fn difference(expected: &[u8], output: &[u8]) -> Option<(usize, String)> {
     let (expected, output) = (normal(expected), normal(output));
@@ -43,11 +49,11 @@ pub fn check_output(input: &[u8], expected: &[u8]) {
     assert_eq!(difference(expected, &program::run(input)), None, "program");
 }
 
-/// Asserts that both implementations answer each call as written beside it, the lines of a show with newlines between.
+/// Asserts that both implementations answer each call as written beside it, several lines with newlines between.
 pub fn check<Call: AsRef<[u8]>, Answer: AsRef<str>>(script: &[(Call, Answer)]) {
     let list = List {
         calls: script.iter().map(|(call, _)| call.as_ref().to_vec()).collect(),
-        answers: script.iter().map(|(_, answer)| answer.as_ref().split('\n').map(String::from).collect()).collect(),
+        answers: script.iter().map(|(_, answer)| answer.as_ref().lines().map(String::from).collect()).collect(),
         network: 0,
     };
     assert_eq!(difference_from_list(&list, &lines::run(&list.input())), None, "second implementation");

@@ -1,6 +1,7 @@
 //! Demand 3 on the program: what a session is answered in a mix of sessions is what it is answered alone, and its
 //! numbers are 1, 2, 3 and so on. SEED and COUNT in the environment choose other lists.
 
+use simulator_tests::compare::is_network;
 use simulator_tests::form::Form;
 use simulator_tests::lists::{input, list, LateNetwork, List};
 use simulator_tests::program;
@@ -44,19 +45,19 @@ fn own(list: &List, session: u64) -> Vec<usize> {
     (list.network..list.calls.len()).filter(names).collect()
 }
 
-/// The answer to each call. Only show has several lines, and `(end)` is its last.
+/// The answer to each call. Show's lines end with `(end)`; net's are nobody's and left out.
 fn answers(calls: &[Vec<u8>], output: &[u8]) -> Vec<String> {
     let output = String::from_utf8(output.to_vec()).expect("the output is text");
-    let mut answers = vec![String::new()];
-    for line in output.lines() {
-        let answer = answers.last_mut().expect("there is one");
-        *answer += line;
-        if !line.starts_with("(assoc ") {
-            answers.push(String::new());
-        }
-    }
-    assert_eq!(answers.pop().as_deref(), Some(""), "the output ends within a show");
-    assert_eq!(answers.len(), calls.len(), "one answer a call");
+    let lines: Vec<&str> = output.lines().filter(|line| !is_network(line)).collect();
+    let is_association = |line: &&str| line.starts_with("(assoc ");
+    assert!(!lines.last().is_some_and(is_association), "the output ends within a show");
+    let mut others = lines.chunk_by(|line, _| is_association(line)).map(<[&str]>::concat);
+    let answer = |call: &Vec<u8>| match Form::read(call) {
+        Some(Form::Net) => String::new(),
+        _ => others.next().expect("each call but net has an answer"),
+    };
+    let answers = calls.iter().map(answer).collect();
+    assert_eq!(others.next(), None, "one answer a call");
     answers
 }
 
