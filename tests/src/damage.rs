@@ -15,7 +15,7 @@ pub fn long_form(length: usize) -> String {
 pub fn damaged(random: &mut Random, line: &str) -> Vec<u8> {
     let mut bytes = line.as_bytes().to_vec();
     let place = random.index(bytes.len());
-    match random.below(13) {
+    match random.below(14) {
         0 => bytes[place] = random.pick(b" ()0123456789abcdefghijklmnopqrstuvwxyz-+.,\t"),
         1 => drop(bytes.remove(place)),
         2 => bytes.insert(place, bytes[place]),
@@ -28,6 +28,7 @@ pub fn damaged(random: &mut Random, line: &str) -> Vec<u8> {
         9 => bytes[place] = random.pick(&[0, 9, 11, 13, 127]),
         10 => bytes[place] = 128 + random.below(128) as u8,
         11 => bytes = long_form(random.pick(&[399, 400, 401, 5000])).into_bytes(),
+        12 => bytes = format!("{} 1)", &line[..line.len() - 1]).into_bytes(),
         _ => bytes.resize(random.pick(&[399, 400, 401, 5000]), b' '),
     }
     bytes

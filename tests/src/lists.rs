@@ -75,6 +75,10 @@ const EDGES: [u64; 21] = [
 impl Generator {
     fn give_network(&mut self) {
         for call in std::mem::take(&mut self.topology.calls) {
+            if self.late == LateNetwork::Yes && self.random.one_in(30) {
+                // before the first node it writes nothing
+                self.call("(net)");
+            }
             self.call(&call);
             if self.random.one_in(30) {
                 self.network_call();
@@ -147,15 +151,16 @@ impl Generator {
 
     fn anything(&mut self) {
         let session = 1 + self.random.below(8);
-        match self.random.below(20) {
+        match self.random.below(23) {
             0..=2 => self.open(session),
             3..=5 => self.step_oddly(session),
             6..=7 => self.send(session),
             8 => self.send_beyond_limit(),
             9 => self.close(session),
             10..=12 => self.call("(show)"),
-            13..=14 if self.late == LateNetwork::Yes => self.network_call(),
-            15..=16 => self.edge_numbers(),
+            13..=15 => self.call("(net)"),
+            16..=17 if self.late == LateNetwork::Yes => self.network_call(),
+            18..=19 => self.edge_numbers(),
             _ => self.damage(),
         }
     }
@@ -253,10 +258,11 @@ impl Generator {
             format!("(send {session} {} 77)", self.random.below(2)),
             format!("(close {session})"),
             "(show)".to_string(),
+            "(net)".to_string(),
             self.any_route(),
             self.any_node(),
         ];
-        let allowed = if self.late == LateNetwork::Yes { forms.len() } else { 5 };
+        let allowed = if self.late == LateNetwork::Yes { forms.len() } else { 6 };
         let form = self.random.index(allowed);
         let line = damaged(&mut self.random, &forms[form]);
         self.call(line);
