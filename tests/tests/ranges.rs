@@ -166,7 +166,8 @@ fn sides_and_tags() {
 /// Lines that are no form, though many nearly are, with bars between.
 const NO_FORMS: &str = "| |(|)|()|( )|show|(show|show)|(show))|((show)|(show )|( show)| (show)|(show) |(show)(show)|\
     (show) (show)|(Show)|(SHOW)|(shows)|(sho)|(show 1)|(show)\r|\r|(show)\0|\0(show)|(sh\0ow)|(show)\t|(show\t)|(sh\u{f6}w)|\
-    \u{feff}(show)|(close)|(close )|(close 1 )|(close  1)|(close 1 1)|(close\t1)|(close 01)|(close 00)|(close +1)|\
+    \u{feff}(show)|net|(net|net)|(net))|(net )|( net)|(net) |(net)(net)|(Net)|(nets)|(ne)|(net 1)|(net 0)|(net ())|(net)\r|\
+    (close)|(close )|(close 1 )|(close  1)|(close 1 1)|(close\t1)|(close 01)|(close 00)|(close +1)|\
     (close -1)|(close 1.0)|(close 0x1)|(close 1a)|(close a)|(close (1))|(close1)|(close 1|close 1|(step 1)|(step 1 )|\
     (step 1 2 3)|(step 01 1)|(step 1 00000000001)|(step 99999999999 1)|(steps 1 1)|(send 1 0)|(send 1 0 1 1)|\
     (send 1 00 1)|(send 1 0 01)|(open 1 1)|(open 1 1 2 3)|(open 1  1 2)|(route 1 2)|(route 1 2 2 2)|(route 1 2 02)|\
@@ -183,6 +184,7 @@ fn unreadable_lines() {
     script.extend(NO_FORMS.split('|').map(|line| (line.as_bytes(), "(no 1)")));
     script.extend([(&b"\x80(show)"[..], "(no 1)"), (b"(show)\xff", "(no 1)"), (b"(sh\xa8ow)", "(no 1)")]);
     script.push((b"(node 9 host (has) (needs))", "(ok)"));
+    script.push((b"(net)", "(node 1 host (has) (needs))\n(node 9 host (has) (needs))"));
     check(&script);
 }
 
@@ -217,6 +219,9 @@ fn line_ends() {
     check_output(b"\n\n", b"(no 1)\n(no 1)\n");
     check_output(b"(show)", b"(end)\n");
     check_output(b"(show)\n", b"(end)\n");
+    check_output(b"(net)", b"");
+    check_output(b"(net)\n\n(net)", b"(no 1)\n");
+    check_output(b"(node 1 host (has) (needs))\n(net)", b"(ok)\n(node 1 host (has) (needs))\n");
     check_output(b"(show)\n(show)", b"(end)\n(end)\n");
     check_output(b"(show)\n\n", b"(end)\n(no 1)\n");
     check_output(b"\n(show)", b"(no 1)\n(end)\n");

@@ -26,6 +26,7 @@ fn unreadable_before_range() {
         ("(send 9 2 11111111111)", "(no 1)"),
         ("(close 9 9)", "(no 1)"),
         ("(show 99)", "(no 1)"),
+        ("(net 99)", "(no 1)"),
     ]);
 }
 
@@ -74,6 +75,23 @@ fn route() {
         ("(route 1 3 3)", "(no 5)"),
         ("(close 1)", "(closed)"),
         ("(route 1 3 3)", "(no 5)"),
+    ]);
+}
+
+/// No refusal but 0 and 1: it is answered before the first node, while a session is in use, and after its close.
+#[test]
+fn net() {
+    check(&[("(net)", ""), ("(node 1 host (has) (needs))", "(ok)"), ("(net)", "(node 1 host (has) (needs))")]);
+    let network = NETWORK.map(|(call, _)| call).join("\n");
+    on_network(&[
+        ("(net)", &network),
+        ("(open 1 1 2)", "(made 1)"),
+        ("(net)", &network),
+        ("(node 4 host (has) (needs))", "(no 5)"),
+        ("(route 1 3 3)", "(no 5)"),
+        ("(net)", &network),
+        ("(close 1)", "(closed)"),
+        ("(net)", &network),
     ]);
 }
 
