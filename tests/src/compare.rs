@@ -45,8 +45,13 @@ pub fn difference_from_list(list: &List, output: &[u8]) -> Option<String> {
 
 /// Asserts that both implementations give this output for this input.
 pub fn check_output(input: &[u8], expected: &[u8]) {
-    assert_eq!(difference(expected, &lines::run(input)), None, "second implementation");
-    assert_eq!(difference(expected, &program::run(input)), None, "program");
+    check_output_of("the input", input, expected);
+}
+
+/// The same, with a name of the input for where it fails.
+pub fn check_output_of(name: &str, input: &[u8], expected: &[u8]) {
+    assert_eq!(difference(expected, &lines::run(input)), None, "{name}: second implementation");
+    assert_eq!(difference(expected, &program::run(input)), None, "{name}: program");
 }
 
 /// Asserts that both implementations answer each call as written beside it, several lines with newlines between.

@@ -1,0 +1,260 @@
+//! The network given back as text, on both implementations. SEED and COUNT in the environment choose other networks and
+//! lists.
+
+use simulator_tests::compare::{check_output, check_output_of, difference, is_network};
+use simulator_tests::form::Form;
+use simulator_tests::lists::{input, list, LateNetwork};
+use simulator_tests::network::{route_form, Network, Node};
+use simulator_tests::random::{for_each_index, setting, Random};
+use simulator_tests::simulator::Simulator;
+use simulator_tests::{lines, program};
+use std::collections::{BTreeMap, BTreeSet};
+
+const NET: &[u8] = b"(net)\n";
+/// A line of the text is read again, so it is within the 400 bytes of a line.
+const LONGEST_NODE: usize = 392;
+/// The text fits in the output that every call is lent.
+const LONGEST_TEXT: usize = 65_536;
+
+/// Calls that are refused on every network.
+const REFUSED: [&str; 8] = [
+    "(node 33 host (has) (needs))",
+    "(node 1 gate (has 2 1) (needs))",
+    "(node 1 gate (has) (needs 64))",
+    "(node 1 gate (has) (needs)",
+    "(route 33 1 2)",
+    "(route 1 1 1)",
+    "(net 1)",
+    "",
+];
+
+/// Asserts that these calls give the network's text, and that the same text, read by a fresh program, gives it again.
+fn round_trip(name: &str, network: &Network, calls: &[String]) {
+    let forms = network.forms();
+    let text = input(&forms);
+    assert!(forms[..network.nodes.len()].iter().all(|node| node.len() <= LONGEST_NODE), "{name}");
+    assert!(text.len() <= LONGEST_TEXT, "{name}: {} bytes", text.len());
+    let calls = input(calls);
+    check_output_of(name, &[&calls, NET].concat(), &[&lines::run(&calls), &text[..]].concat());
+    check_output_of(name, &[&text, NET].concat(), &[b"(ok)\n".repeat(forms.len()), text].concat());
+}
+
+/// The network of these nodes, with the routes that `next` gives for at and destination.
+fn with_routes(nodes: BTreeMap<u64, Node>, mut next: impl FnMut(u64, u64) -> Option<u64>) -> Network {
+    let pairs = nodes.keys().flat_map(|&at| nodes.keys().map(move |&destination| (at, destination)));
+    let others = pairs.filter(|(at, destination)| at != destination);
+    let routes = others.filter_map(|pair| Some((pair, next(pair.0, pair.1)?))).collect();
+    Network { nodes, routes }
+}
+
+/// A node of any kind with about `of_four` of every four credentials.
+fn any_node(random: &mut Random, of_four: u64) -> Node {
+    let mut credentials = || (0..64).filter(|_| random.below(4) < of_four).collect();
+    let (has, needs) = (credentials(), credentials());
+    Node { gateway: random.one_in(2), has, needs }
+}
+
+/// A network of any size, from none to all of its credentials and routes.
+fn any_network(random: &mut Random) -> Network {
+    let mut numbers: Vec<u64> = (1..=32).collect();
+    random.shuffle(&mut numbers);
+    numbers.truncate(random.pick(&[1, 2, 3, 5, 8, 13, 21, 31, 32]));
+    // of every four
+    let (credentials, routes) = (random.below(5), random.below(5));
+    let nodes = numbers.iter().map(|&number| (number, any_node(random, credentials))).collect();
+    with_routes(nodes, |at, _| {
+        let others: Vec<u64> = numbers.iter().copied().filter(|&node| node != at).collect();
+        (random.below(4) < routes).then(|| random.pick(&others))
+    })
+}
+
+/// The network whose text is the longest: every credential, every route, and no next hop of one digit.
+fn fullest() -> Network {
+    let all: BTreeSet<u64> = (0..64).collect();
+    let node = |number| (number, Node { gateway: number % 2 == 0, has: all.clone(), needs: all.clone() });
+    with_routes((1..=32).map(node).collect(), |at, destination| {
+        let others: Vec<u64> = (10..=32).filter(|&node| node != at).collect();
+        Some(others[destination as usize % others.len()])
+    })
+}
+
+/// Calls that give the network in any order, with refused ones between. A route that comes before its nodes is refused,
+/// and comes again when all nodes are there.
+fn in_any_order(random: &mut Random, network: &Network) -> Vec<String> {
+    let mut simulator = Simulator::new();
+    let mut calls = Vec::new();
+    let mut left = network.forms();
+    for _ in 0..2 {
+        random.shuffle(&mut left);
+        left.retain(|form| {
+            let accepted = simulator.call(form.as_bytes()) == ["(ok)"];
+            calls.push(form.clone());
+            if accepted && random.one_in(4) {
+                calls.push(refused_after(random, form));
+            }
+            !accepted
+        });
+    }
+    assert_eq!(left, Vec::<String>::new(), "refused on both rounds");
+    calls
+}
+
+/// A call that is refused once the form is accepted: often one that gives the same node or route otherwise.
+fn refused_after(random: &mut Random, form: &str) -> String {
+    match Form::read(form.as_bytes()) {
+        Some(Form::Node { node, .. }) if random.one_in(2) => any_node(random, 2).form(node),
+        Some(Form::Route { at, destination, .. }) if random.one_in(2) => {
+            route_form(at, destination, 1 + random.below(32))
+        }
+        _ => random.pick(&REFUSED).to_string(),
+    }
+}
+
+/// Numbers rise as numbers and not as words, routes by at before destination, whatever the order of the calls.
+#[test]
+fn the_order_is_the_networks_own() {
+    let calls = [
+        "(node 10 gate (has 2 10) (needs))",
+        "(node 32 host (has) (needs 0 63))",
+        "(node 9 host (has 0 1 2 62 63) (needs 7))",
+        "(route 32 9 10)",
+        "(route 10 32 32)",
+        "(route 9 32 10)",
+        "(route 10 9 9)",
+        "(node 1 gate (has) (needs))",
+        "(route 9 10 10)",
+    ];
+    let text = "(node 1 gate (has) (needs))\n(node 9 host (has 0 1 2 62 63) (needs 7))\n\
+                (node 10 gate (has 2 10) (needs))\n(node 32 host (has) (needs 0 63))\n\
+                (route 9 10 10)\n(route 9 32 10)\n(route 10 9 9)\n(route 10 32 32)\n(route 32 9 10)\n";
+    let answers = "(ok)\n".repeat(calls.len());
+    check_output(&[&input(&calls), NET].concat(), (answers.clone() + text).as_bytes());
+    check_output(&[text.as_bytes(), NET].concat(), (answers + text).as_bytes());
+}
+
+/// Its text has no bytes, also where calls were refused before.
+#[test]
+fn the_empty_network() {
+    round_trip("no call", &Network::default(), &[]);
+    round_trip("refused calls", &Network::default(), &REFUSED.map(String::from));
+    check_output(&NET.repeat(3), b"");
+}
+
+/// It is asked for so often that its text lies across the ends of any buffer.
+#[test]
+fn the_fullest_network() {
+    let network = fullest();
+    let text = input(&network.forms());
+    assert_eq!((network.nodes.len(), network.routes.len(), text.len()), (32, 992, 28_873));
+    assert_eq!(network.forms()[31].len(), LONGEST_NODE);
+    round_trip("in order", &network, &network.forms());
+    let calls = in_any_order(&mut Random::new(setting("SEED", 8), 0), &network);
+    round_trip("in any order", &network, &calls);
+    let answers = b"(ok)\n".repeat(32 + 992);
+    check_output(&[&text, &NET.repeat(20)[..]].concat(), &[answers, text.repeat(20)].concat());
+}
+
+#[test]
+fn random_networks_come_back() {
+    let (seed, count) = (setting("SEED", 9), setting("COUNT", 200));
+    let bare = for_each_index(count, |index| {
+        let mut random = Random::new(seed, index);
+        let network = any_network(&mut random);
+        let calls = in_any_order(&mut random, &network);
+        round_trip(&format!("SEED={seed}, network {index}"), &network, &calls);
+        network.routes.is_empty()
+    });
+    // of a few networks, all may have routes
+    assert!(count < 100 || bare.contains(&true), "no network without routes");
+}
+
+/// The network, and each that differs from it in one credential, one kind or one next hop.
+fn neighbours(network: &Network) -> Vec<Network> {
+    let mut all = vec![network.clone()];
+    let mut add = |change: &dyn Fn(&mut Network)| {
+        let mut other = network.clone();
+        change(&mut other);
+        all.push(other);
+    };
+    for number in network.nodes.keys() {
+        add(&|other| node_of(other, number).gateway ^= true);
+        for credential in 0..64 {
+            add(&|other| toggle(&mut node_of(other, number).has, credential));
+            add(&|other| toggle(&mut node_of(other, number).needs, credential));
+        }
+    }
+    for (route, next) in &network.routes {
+        for another in network.nodes.keys().filter(|&node| *node != route.0 && node != next) {
+            add(&|other| *other.routes.get_mut(route).expect("the route is there") = *another);
+        }
+    }
+    all
+}
+
+fn node_of<'a>(network: &'a mut Network, number: &u64) -> &'a mut Node {
+    network.nodes.get_mut(number).expect("the node is there")
+}
+
+fn toggle(set: &mut BTreeSet<u64>, credential: u64) {
+    if !set.remove(&credential) {
+        set.insert(credential);
+    }
+}
+
+#[test]
+fn different_networks_have_different_texts() {
+    let mut random = Random::new(setting("SEED", 10), 0);
+    let nodes = [2, 9, 31].map(|number| (number, any_node(&mut random, 2)));
+    let networks = neighbours(&with_routes(nodes.into(), |_, destination| Some(destination)));
+    // a kind and twice 64 credentials of each node, and another next hop of each route
+    assert_eq!(networks.len(), 1 + 3 * (1 + 2 * 64) + 6);
+    let texts = for_each_index(networks.len() as u64, |index| {
+        // all are given by as many calls, so the answers before the text are the same
+        program::run(&[&input(&networks[index as usize].forms()), NET].concat())
+    });
+    assert_eq!(texts.iter().collect::<BTreeSet<_>>().len(), networks.len(), "two networks have one text");
+}
+
+/// The program's output without its first lines.
+fn output_after(skipped: usize, input: &[u8]) -> Vec<u8> {
+    program::run(input).split_inclusive(|&byte| byte == b'\n').skip(skipped).collect::<Vec<_>>().concat()
+}
+
+/// Sessions go on the network that its text gives as on the network itself.
+#[test]
+fn calls_are_answered_alike_on_the_text() {
+    let (seed, count) = (setting("SEED", 11), setting("COUNT", 100));
+    for_each_index(count, |index| {
+        let list = list(seed, index, 300, LateNetwork::No);
+        let (network, others) = list.calls.split_at(list.network);
+        let text = output_after(network.len(), &[&input(network), NET].concat());
+        let forms = text.iter().filter(|&&byte| byte == b'\n').count();
+        let expected = output_after(network.len(), &list.input());
+        let written = output_after(forms, &[text, input(others)].concat());
+        assert_eq!(difference(&expected, &written), None, "SEED={seed}, list {index}");
+    });
+}
+
+/// A list with nets put in anywhere is answered as without them, but for the network's lines.
+#[test]
+fn nets_change_nothing() {
+    let (seed, count) = (setting("SEED", 12), setting("COUNT", 100));
+    for_each_index(count, |index| {
+        let list = list(seed, index, 300, LateNetwork::Yes);
+        let mut random = Random::new(seed, count + index);
+        let mut with_nets = list.calls.clone();
+        for _ in 0..list.calls.len() / 3 {
+            with_nets.insert(random.index(with_nets.len() + 1), b"(net)".to_vec());
+        }
+        let with_nets = input(&with_nets);
+        let output = program::run(&with_nets);
+        assert_eq!(difference(&lines::run(&with_nets), &output), None, "SEED={seed}, list {index}");
+        let without = difference(&others(&program::run(&list.input())), &others(&output));
+        assert_eq!(without, None, "SEED={seed}, list {index}");
+    });
+}
+
+/// The lines that are not the network's.
+fn others(output: &[u8]) -> Vec<u8> {
+    output.split_inclusive(|&byte| byte == b'\n').filter(|line| !is_network(line)).collect::<Vec<_>>().concat()
+}
