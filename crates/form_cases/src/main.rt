@@ -1,7 +1,11 @@
-// Writes what each line of the input asks, then answers of each kind, with every loss and every refusal.
-use answers::write::Written;
+// Writes what each line of the input asks, then answers of each kind, with every loss and every refusal, then lines of reports.
+use answers::report::write_association;
+use answers::report::write_end;
+use answers::report::write_node;
+use answers::report::write_route;
 use answers::write::write;
 use calculus::answer::Answer;
+use calculus::answer::Association;
 use calculus::answer::Loss;
 use calculus::answer::Refusal;
 use calculus::network::Kind;
@@ -28,10 +32,8 @@ fn put_number(n: u64) {
 // An answer at place 4 of forty dots, and all forty.
 fn put_answer(answer: Answer) {
     let mut out = [b'.'; 40];
-    match write(&mut out, 4, answer) {
-        Written::Next(_) => put(&out),
-        Written::Full => put(b"full"),
-    }
+    write(&mut out, 4, answer);
+    put(&out);
     put(b"\n");
 }
 
@@ -97,6 +99,7 @@ fn put_request(request: Request) {
             put_number(session.0 as u64);
         }
         Request::Show => put(b"show"),
+        Request::Net => put(b"net"),
     }
 }
 
@@ -156,23 +159,84 @@ fn put_answers() {
     put_answer(Answer::Opened);
     put_answer(Answer::Delivered(4294967295));
     put_answer(Answer::Closed);
-    put_answer(Answer::Assoc {
-        node: 1,
-        out: false,
-        peer: 2,
-        spi: Spi::between(1, 2),
-        users: 1,
-    });
-    put_answer(Answer::Assoc {
+    put_association(association());
+    put_association(Association {
         node: 32,
         out: true,
         peer: 31,
         spi: Spi::between(31, 32),
         users: 65535,
     });
-    put_answer(Answer::End);
+    put_end();
     put_losses();
     put_refusals();
+}
+
+// ---- lines of reports, each as an answer is put
+
+fn association() -> Association {
+    Association {
+        node: 1,
+        out: false,
+        peer: 2,
+        spi: Spi::between(1, 2),
+        users: 1,
+    }
+}
+
+fn put_association(x: Association) {
+    let mut out = [b'.'; 40];
+    write_association(&mut out, 4, x);
+    put(&out);
+    put(b"\n");
+}
+
+fn put_end() {
+    let mut out = [b'.'; 40];
+    write_end(&mut out, 4);
+    put(&out);
+    put(b"\n");
+}
+
+// The place behind a line, then the bytes that it stands in.
+fn put_written(next: usize, out: &[u8]) {
+    put_number(next as u64);
+    put(b" ");
+    put(out);
+    put(b"\n");
+}
+
+fn put_route() {
+    let mut out = [b'.'; 40];
+    let next = write_route(&mut out, 4, 32, 1, 31);
+    put_written(next, &out);
+}
+
+// A gateway that has three credentials and needs all, at place 4.
+fn put_gateway(out: &mut [u8]) {
+    let mut has = [false; 64];
+    has[0] = true;
+    has[9] = true;
+    has[63] = true;
+    let next = write_node(out, 4, 32, Kind::Gateway, has, [true; 64]);
+    put_written(next, out);
+}
+
+// Where one byte too few is left nothing is written, and the place stays.
+fn put_nothing() {
+    let mut out = [b'.'; 35];
+    put_number(write(&mut out, 4, Answer::Ok) as u64);
+    put_number(write_association(&mut out, 4, association()) as u64);
+    put_number(write_end(&mut out, 4) as u64);
+    let next = write_route(&mut out, 4, 1, 4, 2);
+    put_written(next, &out);
+    put_gateway(&mut [b'.'; 403]);
+}
+
+fn put_reports() {
+    put_route();
+    put_gateway(&mut [b'.'; 404]);
+    put_nothing();
 }
 
 fn main() {
@@ -192,4 +256,5 @@ fn main() {
         }
     }
     put_answers();
+    put_reports();
 }

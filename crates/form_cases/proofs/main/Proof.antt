@@ -4,7 +4,7 @@ use native.Mathlib.Omega.{arith}
 use lib.ListN.{length, take}
 use Prim.Native.Nat.{_-_, _≤_}
 use Rattle.calculus.proofs.Tests.{join}
-use Rattle.forms.proofs.Splits.{line-inside}
+use Rattle.forms.proofs.Splits.{Inside, line-inside}
 use Rattle.form_cases.proofs.main.Statement.{statement}
 use Rattle.form_cases.proofs.main.Tie as tie
 
@@ -14,42 +14,27 @@ Inv-loop n text from₀ from = from ≤ length text
 abbrev μ-loop : tie.MeasureT-loop
 μ-loop n text from₀ from = length text - from
 
+-- the line that was found stands in the input
+inside : (c : tie.After-stop Inv-loop μ-loop)
+    → let c₃ = c .before .before .before in
+    let x = c₃ .before .before .before .read-full in
+    Inside (take (x .result) (x .last .1 .0)) (c₃ .loop .from) (c .stop .given .0 .0) (c .stop .given .0 .1 .0)
+inside c = line-inside _ _ _ _ (join (c .before .before .next-line .ensures) (c .stop .given .1))
+
 sub-put-line : tie.Need-sub-put-line Inv-loop μ-loop
-sub-put-line c =
-    let c₃ = c .before .before .before in
-    let c₄ = c₃ .before in
-    let c₇ = c₄ .before .before .before in
-    omega (arith, line-inside (take (c₇ .read-full .result) (c₇ .read-full .last .1 .0)) (c₄ .loop .from) (c .before .stop .given .0 .0) (c .before .stop .given .0 .1 .0) (join (c₃ .next-line .ensures) (c .before .stop .given .1)))
+sub-put-line c = omega (arith, inside (c .before))
 
 part-put-line-start : tie.Need-part-put-line-start Inv-loop μ-loop
-part-put-line-start c =
-    let c₃ = c .before .before .before in
-    let c₄ = c₃ .before in
-    let c₇ = c₄ .before .before .before in
-    omega (arith, line-inside (take (c₇ .read-full .result) (c₇ .read-full .last .1 .0)) (c₄ .loop .from) (c .before .stop .given .0 .0) (c .before .stop .given .0 .1 .0) (join (c₃ .next-line .ensures) (c .before .stop .given .1)))
+part-put-line-start c = omega (arith, inside (c .before))
 
 part-put-line-end : tie.Need-part-put-line-end Inv-loop μ-loop
-part-put-line-end c =
-    let c₃ = c .before .before .before in
-    let c₄ = c₃ .before in
-    let c₇ = c₄ .before .before .before in
-    omega (arith, line-inside (take (c₇ .read-full .result) (c₇ .read-full .last .1 .0)) (c₄ .loop .from) (c .before .stop .given .0 .0) (c .before .stop .given .0 .1 .0) (join (c₃ .next-line .ensures) (c .before .stop .given .1)))
+part-put-line-end c = omega (arith, inside (c .before))
 
 loop-less : tie.Need-loop-less Inv-loop μ-loop
-loop-less c =
-    let c₃ = c .before .before .before in
-    let c₅ = c₃ .before .before in
-    let c₆ = c₅ .before in
-    let c₉ = c₆ .before .before .before in
-    omega (arith, line-inside (take (c₉ .read-full .result) (c₉ .read-full .last .1 .0)) (c₆ .loop .from) (c₃ .stop .given .0 .0) (c₃ .stop .given .0 .1 .0) (join (c₅ .next-line .ensures) (c₃ .stop .given .1)))
+loop-less c = omega (arith, inside (c .before .before .before))
 
 loop-again : tie.Need-loop-again Inv-loop μ-loop
-loop-again c =
-    let c₃ = c .before .before .before in
-    let c₅ = c₃ .before .before in
-    let c₆ = c₅ .before in
-    let c₉ = c₆ .before .before .before in
-    omega (arith, line-inside (take (c₉ .read-full .result) (c₉ .read-full .last .1 .0)) (c₆ .loop .from) (c₃ .stop .given .0 .0) (c₃ .stop .given .0 .1 .0) (join (c₅ .next-line .ensures) (c₃ .stop .given .1)))
+loop-again c = omega (arith, inside (c .before .before .before))
 
 pub main-spec : {M : Type 1} → statement M
 main-spec =
@@ -71,5 +56,6 @@ main-spec =
     loop-less
     loop-again
     (λ c. search needs)
+    (λ c κs. search needs)
     (λ c κs. search needs)
     (λ c. search needs))
