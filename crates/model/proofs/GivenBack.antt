@@ -37,6 +37,7 @@ use Rattle.model.proofs.Lists.{all-at, all-of-getD}
 use Rattle.model.proofs.Tables.{only-width, entries-width}
 use Rattle.model.proofs.Nodes.{Node, given-node, nodes-given, Hop, hop-found}
 use Rattle.model.proofs.Reached.{reached}
+use Rattle.model.proofs.Ordered.{text-ordered}
 
 -- ---- one line
 
@@ -276,6 +277,7 @@ pub given-back : GivenBack
 given-back =
     record {
       written = net-written;
+      ordered = text-ordered;
       consistent = λ cs. reached cs .consistent;
       again = text-again;
       accepts = text-accepted;

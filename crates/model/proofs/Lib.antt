@@ -27,6 +27,7 @@ pub mod SetUp
 pub mod Refusals
 pub mod ShowLines
 pub mod Show
+pub mod Ordered
 pub mod GivenBack
 pub mod Listings
 pub mod Turns

@@ -1,8 +1,8 @@
 -- The network's text gives that network again, and no other (document 02, #101). Proved in proofs/GivenBack. Assumes nothing.
-use Prim.Native.Nat.{ℕ, _≤_}
+use Prim.Native.Nat.{ℕ, _+_, _*_, _≤_, _<_}
 use mathlib.Core.Path.{_≡_}
 use mathlib.Core.Bool.{true, false}
-use mathlib.Core.List.{List, map}
+use mathlib.Core.List.{List, [], _∷_, map}
 use mathlib.Core.Logic.{_↔_}
 use lib.ListN.{length}
 use Rattle.calculus.specs.declared.answer.Answer.the-variants.{Ok}
@@ -10,11 +10,11 @@ use Rattle.calculus.specs.declared.network.Network.{Network}
 use Rattle.calculus.specs.declared.network.NextHop.the-variants.{Found}
 use Rattle.calculus.specs.declared.network.Node.{Node}
 use Rattle.calculus.specs.declared.state.State.{State}
-use Rattle.forms.specs.Text.{net, text}
+use Rattle.forms.specs.Text.{Form, node, route, «open», step, send, close, show, net, text}
 use Rattle.forms.specs.Line.{lines}
 use Rattle.model.specs.Lists.{All}
 use Rattle.model.specs.Network.{noNode, nextHop}
-use Rattle.model.specs.NetworkText.{networkLines, networkText}
+use Rattle.model.specs.NetworkText.{networkForms, networkLines, networkText}
 use Rattle.model.specs.State.{fresh}
 use Rattle.model.specs.Requests.{accepted, nodesGiven, leadsBack}
 use Rattle.model.specs.Calls.{Call, answer, Reply, reported, call, after, replies}
@@ -35,6 +35,24 @@ pub record Consistent (n : Network) : Type 0 where
   pub places : All IsPlace (n .nodes)
   pub routed : (a b next : ℕ) → nextHop n a b ≡ Found next → (nodesGiven n a b next ≡ true) × (leadsBack a b next ≡ false)
 
+-- ---- the text's order
+
+-- where a form stands: nodes by number, then routes by at, then by destination; no other form gives a network
+abbrev pub rank : Form → ℕ
+rank (node a k has needs) = a
+rank (route a b next) = 32 * a + b
+rank («open» u c d) = 0
+rank (step u k) = 0
+rank (send u w tag) = 0
+rank (close u) = 0
+rank show = 0
+rank net = 0
+
+-- each number is above the one before it, and the first above `least`
+abbrev pub Rising : ℕ → List ℕ → Type 0
+Rising least [] = Unit
+Rising least (n ∷ ns) = (least < n) × Rising n ns
+
 -- ---- the text, read
 
 -- the fresh state, but for its network
@@ -47,6 +65,8 @@ IsOk r = r .lines ≡ answer Ok
 pub record GivenBack : Type 0 where
   -- "(net) writes it", at any time, and changes nothing
   pub written : (s : State) → call s (roomyCall (text net)) ≡ reported s (networkLines (s .network))
+  -- "nodes rising, then routes by at, then by destination"
+  pub ordered : (n : Network) → Consistent n → Rising 0 (map rank (networkForms n))
   -- whatever is called of a fresh state, the network is consistent
   pub consistent : (cs : List Call) → Consistent (after fresh cs .network)
   -- "Read on a fresh desk, the output gives that network again", and changes nothing else; each line is accepted
