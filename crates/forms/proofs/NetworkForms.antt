@@ -54,9 +54,10 @@ node-read a k has needs h g j =
     (record {
       written = refl;
       short = omega arith;
-      digits =
-          (omega (arith, width-most 1 a (omega arith)),
-          digits-join 10 (credentialsFrom 0 has) (credentialsFrom 0 needs) (credentials-digits has g) (credentials-digits needs j));
+      digits = (
+        omega (arith, width-most 1 a (omega arith)),
+        digits-join 10 (credentialsFrom 0 has) (credentialsFrom 0 needs) (credentials-digits has g) (credentials-digits needs j),
+      );
     })
 
 pub route-read : (a b next : ℕ) → a ≤ 32 → b ≤ 32 → next ≤ 32 → read (text (route a b next)) ≡ some (route a b next)
@@ -66,10 +67,13 @@ route-read a b next h g j =
     (record {
       written = refl;
       short = omega arith;
-      digits =
-          (omega (arith, width-most 1 a (omega arith)),
-          (omega (arith, width-most 1 b (omega arith)),
-          (omega (arith, width-most 1 next (omega arith)), tt)));
+      digits = (
+        omega (arith, width-most 1 a (omega arith)),
+        (
+          omega (arith, width-most 1 b (omega arith)),
+          (omega (arith, width-most 1 next (omega arith)), tt),
+        ),
+      );
     })
 
 net-width : length (text net) ≤ 400

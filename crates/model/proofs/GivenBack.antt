@@ -111,14 +111,14 @@ next-place k p x = omega (arith, length-append p (x ∷ []))
 -- `holding` is the state that has this table; where an entry is still blank, its form fills it in
 module _ {A : Type 0} (holding : List A → State) (blank : A) (form : ℕ → A → List Form) (k : ℕ) (all : List A)
     (fills : (p : List A) (x : A) (r l : List A) → all ≡ p ++ x ∷ l → Gives (holding (p ++ blank ∷ r)) (form (k + length p) x) (holding (p ++ x ∷ r)))
-    where
-  table-gives : (p l : List A) → all ≡ p ++ l
-      → Gives (holding (p ++ replicate (length l) blank)) (entriesFrom form (k + length p) l) (holding (p ++ l))
-  unfolding entriesFrom
-  table-gives p [] w = none-left
-  table-gives p (x ∷ l) w =
-      let more = table-gives (p ++ (x ∷ [])) l (w ∙ sym (append-snoc p x l)) in
-      gives-append (fills p x (replicate (length l) blank) l w) (simp (append-snoc, next-place) at more)
+  where
+    table-gives : (p l : List A) → all ≡ p ++ l
+        → Gives (holding (p ++ replicate (length l) blank)) (entriesFrom form (k + length p) l) (holding (p ++ l))
+    unfolding entriesFrom
+    table-gives p [] w = none-left
+    table-gives p (x ∷ l) w =
+        let more = table-gives (p ++ (x ∷ [])) l (w ∙ sym (append-snoc p x l)) in
+        gives-append (fills p x (replicate (length l) blank) l w) (simp (append-snoc, next-place) at more)
 
 -- ---- the nodes
 
@@ -245,20 +245,20 @@ module _ (n : Network) (h : Consistent n) where
         few,
         many,
         entries-width formLine 393 IsPlace nodeForm 1 (n .nodes) (h .places)
-        (λ a x i j g.
-        only-width formLine 393 (x .given) _
-        (λ e. simp length-append
-        (omega (
-          arith,
-          node-width a (x .kind) (credentialsFrom 0 (x .has)) (credentialsFrom 0 (x .needs)) (omega (arith, h .nodes))
-          (credentials-width (x .has) (g .has)) (credentials-width (x .needs) (g .needs)),
-        )))),
+            (λ a x i j g.
+            only-width formLine 393 (x .given) _
+            (λ e. simp length-append
+            (omega (
+              arith,
+              node-width a (x .kind) (credentialsFrom 0 (x .has)) (credentialsFrom 0 (x .needs)) (omega (arith, h .nodes))
+                  (credentials-width (x .has) (g .has)) (credentials-width (x .needs) (g .needs)),
+            )))),
         entries-width formLine 17 (λ next. next ≤ 32) routeForm 0 (n .routes)
-        (all-of-getD (λ next. next ≤ 32) (n .routes) 0 (λ p w. next-most p (omega (arith, h .routes))))
-        (λ p next i j g.
-        only-width formLine 17 (ltb 0 next) _
-        (λ e. simp length-append
-        (omega (arith, route-width (p / 32 + 1) (p % 32 + 1) next (omega (arith, h .routes)) (omega arith) g)))),
+            (all-of-getD (λ next. next ≤ 32) (n .routes) 0 (λ p w. next-most p (omega (arith, h .routes))))
+            (λ p next i j g.
+            only-width formLine 17 (ltb 0 next) _
+            (λ e. simp length-append
+            (omega (arith, route-width (p / 32 + 1) (p % 32 + 1) next (omega (arith, h .routes)) (omega arith) g)))),
       ))
 
 -- ---- the promise

@@ -8,9 +8,7 @@ use lib.Dec.{ltb}
 use lib.ListN.{length}
 use Rattle.calculus.specs.Table.{entriesFrom, onlyIf}
 use Rattle.calculus.specs.declared.network.Network.{Network}
-use Rattle.calculus.specs.declared.network.Node as declared
-use Rattle.forms.specs.Text.{Form, node, route}
-use Rattle.forms.specs.Request.{credentialsFrom}
+use Rattle.forms.specs.Text.{Form}
 use Rattle.model.specs.Lists.{All}
 use Rattle.model.specs.NetworkText.{nodeForm, routeForm, networkForms}
 use Rattle.model.specs.GivenBack.{rank, Rising, Consistent}
@@ -36,29 +34,25 @@ append-between ns ms h k x y =
       most = all-append _ ns ms (all-map _ _ (λ n e. omega arith) ns (x .most)) (y .most);
     }
 
--- a walk that makes at most one form of each entry; the ranks follow each other as the entries' numbers do
-module _ {A : Type 0} (test : A → Bool) (form : ℕ → A → Form) where
-  abbrev perEntry : ℕ → A → List Form
-  perEntry j x = onlyIf (test x) (form j x)
+only-between : {low high : ℕ} (b : Bool) (f : Form) → low < rank f → rank f ≤ high → Between low (map rank (onlyIf b f)) high
+only-between true f h g = record { rise = (h, tt); most = (g, tt) }
+only-between false f h g = record { rise = tt; most = tt }
 
-  walk-between : (k low : ℕ) (l : List A) → ((j : ℕ) (x : A) → j < k + length l → rank (form j x) + k ≡ j + low + 1)
-      → Between low (map rank (entriesFrom perEntry k l)) (low + length l)
-  unfolding entriesFrom
-  walk-between k low [] h = record { rise = tt; most = tt }
-  walk-between k low (x ∷ l) h =
-      let e : low + 1 + length l ≡ low + suc (length l) = omega arith in
-      let more = rw e at (walk-between (k + 1) (low + 1) l (λ j y w. let r = h j y (omega arith) in omega arith)) in
-      rw (map-append rank (perEntry k x) (entriesFrom perEntry (k + 1) l))
-      (append-between (map rank (perEntry k x)) (map rank (entriesFrom perEntry (k + 1) l)) (omega arith) (omega arith) (one (test x)) more)
-    where
-      one : (b : Bool) → Between low (map rank (onlyIf b (form k x))) (low + 1)
-      one true = let e = h k x (omega arith) in record { rise = (omega arith, tt); most = (omega arith, tt) }
-      one false = record { rise = tt; most = tt }
+-- a walk along which the ranks follow each other as the entries' numbers do
+walk-between : {A : Type 0} (forms : ℕ → A → List Form) (k low : ℕ) (l : List A)
+    → ((j m : ℕ) (x : A) → j < k + length l → m + k ≡ j + low → Between m (map rank (forms j x)) (m + 1))
+    → Between low (map rank (entriesFrom forms k l)) (low + length l)
+unfolding entriesFrom
+walk-between forms k low [] h = record { rise = tt; most = tt }
+walk-between forms k low (x ∷ l) h =
+    let e : low + 1 + length l ≡ low + suc (length l) = omega arith in
+    let more = rw e at (walk-between forms (k + 1) (low + 1) l (λ j m y w i. h j m y (omega arith) (omega arith))) in
+    rw (map-append rank (forms k x) (entriesFrom forms (k + 1) l))
+    (append-between (map rank (forms k x)) (map rank (entriesFrom forms (k + 1) l)) (omega arith) (omega arith)
+    (h k low x (omega arith) (omega arith)) more)
 
 pub text-ordered : (n : Network) → Consistent n → Rising 0 (map rank (networkForms n))
 text-ordered n h =
-    let nodes = walk-between (λ (x : declared.Node). x .given) (λ a x. node a (x .kind) (credentialsFrom 0 (x .has)) (credentialsFrom 0 (x .needs))) 1 0 (n .nodes)
-    (λ a x w. omega arith) in
-    let routes = walk-between (λ next. ltb 0 next) (λ p next. route (p / 32 + 1) (p % 32 + 1) next) 0 32 (n .routes) (λ p next w. omega arith) in
-    rw (map-append rank (entriesFrom nodeForm 1 (n .nodes)) (entriesFrom routeForm 0 (n .routes)))
-    (append-between _ _ (omega arith) (omega arith) (rw (h .nodes) at nodes) routes .rise)
+    let nodes = walk-between nodeForm 1 0 (n .nodes) (λ a m x w e. only-between (x .given) _ (omega arith) (omega arith)) in
+    let routes = walk-between routeForm 0 32 (n .routes) (λ p m next w e. only-between (ltb 0 next) _ (omega arith) (omega arith)) in
+    rw (map-append rank _ _) (append-between _ _ (omega arith) (omega arith) (rw (h .nodes) at nodes) routes .rise)

@@ -95,7 +95,7 @@ peers-width out a l h u =
       arith,
       length-take 32 l,
       entries-width associationLine 29 Few (association out a) 1 (take 32 l) (all-take Few 32 l u)
-      (λ q n i j v. only-width associationLine 29 (ltb 0 n) _ (λ e. line-width out a q n h (omega (arith, length-take 32 l)) v)),
+          (λ q n i j v. only-width associationLine 29 (ltb 0 n) _ (λ e. line-width out a q n h (omega (arith, length-take 32 l)) v)),
     )
 
 nodes-width : (k a : ℕ) (l : List ℕ) → a + k ≤ 33 → All Few l → length (joined (map associationLine (associations k a l))) ≤ 1856 * k

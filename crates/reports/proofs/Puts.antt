@@ -61,7 +61,7 @@ module _ {A B : Type 0} {line : B → List ℕ} {f : ℕ → A → List B} {k w 
       record {
         inside = omega arith;
         puts = rw (add-one i, entries-next f k t i d h, e, lines-append line (entriesFrom f k (take i t)) (f j (getD t i d)))
-        (puts-append (x .puts) y (rw mul-suc (omega arith)));
+            (puts-append (x .puts) y (rw mul-suc (omega arith)));
       }
 
   pub firsts-all : {i p : ℕ} {m : List ℕ} → length t ≤ i → Firsts line f k w t l at i m p → Puts (w * i) l at (joined (map line (entriesFrom f k t))) m p
