@@ -5,9 +5,8 @@
 use crate::networks;
 use crate::recorder::Recorder;
 use simulator_tests::damage::damaged;
+use simulator_tests::network::Node;
 use simulator_tests::random::{setting, Random};
-use simulator_tests::topology::node_call;
-use std::collections::BTreeSet;
 
 const CALLS: u64 = 1_000_000;
 /// With fewer calls the eight sessions do not come far enough for what their lists promise.
@@ -183,8 +182,9 @@ pub fn node_forms(calls: usize) -> Vec<Vec<u8>> {
         if place == calls as u64 / 2 {
             recorder.open(1, (1, 2));
         }
-        let mut credentials = || (0..64).filter(|_| !random.one_in(4)).collect::<BTreeSet<_>>();
-        recorder.call(node_call(1 + place % 32, place % 8 == 7, &credentials(), &credentials()));
+        let mut credentials = || (0..64).filter(|_| !random.one_in(4)).collect();
+        let (has, needs) = (credentials(), credentials());
+        recorder.call(Node { gateway: place % 8 == 7, has, needs }.form(1 + place % 32));
     }
     assert_eq!(recorder.kinds(), ["made", "no 3", "no 5", "ok"]);
     assert_eq!(recorder.count("ok"), 32);

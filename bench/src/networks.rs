@@ -1,6 +1,7 @@
 //! The networks of the benchmark, as the node and route calls that give them.
 
-use simulator_tests::topology::{next_in_tree, node_call};
+use simulator_tests::network::{route_form, Node};
+use simulator_tests::topology::next_in_tree;
 use std::collections::BTreeSet;
 
 const GATEWAYS: u64 = 8;
@@ -38,12 +39,13 @@ pub fn eight_ends() -> [(u64, u64); 8] {
 /// Nodes without credentials, numbered by their places from 1, and the route of each to each along the tree that the
 /// places' parents give.
 fn tree(gateways: &[bool], parents: &[usize]) -> Vec<String> {
-    let none = BTreeSet::new();
     let places = || 0..gateways.len();
-    let nodes = gateways.iter().zip(1..).map(|(&gateway, node)| node_call(node, gateway, &none, &none));
+    let bare = |gateway| Node { gateway, has: BTreeSet::new(), needs: BTreeSet::new() };
+    let nodes = gateways.iter().zip(1..).map(|(&gateway, number)| bare(gateway).form(number));
     let pairs = places().flat_map(|at| places().map(move |destination| (at, destination)));
     let routes = pairs.filter(|(at, destination)| at != destination).map(|(at, destination)| {
-        format!("(route {} {} {})", at + 1, destination + 1, next_in_tree(parents, at, destination) + 1)
+        let number = |place: usize| place as u64 + 1;
+        route_form(number(at), number(destination), number(next_in_tree(parents, at, destination)))
     });
     nodes.chain(routes).collect()
 }

@@ -11,10 +11,6 @@ use simulator_tests::{lines, program};
 use std::collections::{BTreeMap, BTreeSet};
 
 const NET: &[u8] = b"(net)\n";
-/// A line of the text is read again, so it is within the 400 bytes of a line.
-const LONGEST_NODE: usize = 392;
-/// The text fits in the output that every call is lent.
-const LONGEST_TEXT: usize = 65_536;
 
 /// Calls that are refused on every network.
 const REFUSED: [&str; 8] = [
@@ -32,8 +28,6 @@ const REFUSED: [&str; 8] = [
 fn round_trip(name: &str, network: &Network, calls: &[String]) {
     let forms = network.forms();
     let text = input(&forms);
-    assert!(forms[..network.nodes.len()].iter().all(|node| node.len() <= LONGEST_NODE), "{name}");
-    assert!(text.len() <= LONGEST_TEXT, "{name}: {} bytes", text.len());
     let calls = input(calls);
     check_output_of(name, &[&calls, NET].concat(), &[&lines::run(&calls), &text[..]].concat());
     check_output_of(name, &[&text, NET].concat(), &[b"(ok)\n".repeat(forms.len()), text].concat());
@@ -146,7 +140,8 @@ fn the_fullest_network() {
     let network = fullest();
     let text = input(&network.forms());
     assert_eq!((network.nodes.len(), network.routes.len(), text.len()), (32, 992, 28_873));
-    assert_eq!(network.forms()[31].len(), LONGEST_NODE);
+    // within the 400 bytes of a line that is read
+    assert_eq!(network.forms()[31].len(), 392);
     round_trip("in order", &network, &network.forms());
     let calls = in_any_order(&mut Random::new(setting("SEED", 8), 0), &network);
     round_trip("in any order", &network, &calls);

@@ -1,6 +1,6 @@
 -- How many bytes a line takes: a node's at most 400, every other at most 32. Assumes nothing.
 use mathlib.Core.Path.{_≡_}
-use mathlib.Core.Bool.{Bool, true, false}
+use mathlib.Core.Bool.{Bool}
 use mathlib.Core.List.{List, [], _∷_}
 use Prim.Native.Nat.{ℕ, _+_, _^_, _≤_, _<_}
 use native.Mathlib.Omega.{arith}
@@ -15,17 +15,16 @@ use Rattle.calculus.specs.declared.answer.Loss as loss
 use Rattle.calculus.specs.declared.answer.Loss.the-variants.{Unprotected, HopLimit, NoRoute, NoTunnel, WrongTunnel, Exhausted}
 use Rattle.calculus.specs.declared.answer.Refusal as refusal
 use Rattle.calculus.specs.declared.answer.Refusal.the-variants as refusals
-use Rattle.calculus.specs.declared.answer.Association.{Association}
+use Rattle.calculus.specs.declared.answer.ShownAssociation.{ShownAssociation}
 use Rattle.calculus.specs.declared.network.Kind.{Kind}
 use Rattle.calculus.proofs.answer.Answer.{the-type}
 use Rattle.forms.specs.Bytes.{bytes}
-use Rattle.forms.specs.Text.{listText, node, route, text, formLine}
-use Rattle.forms.specs.Request.{credentialsFrom}
-use Rattle.forms.specs.Answer.{lineText, directionText, answerText, associationLine}
+use Rattle.forms.specs.Text.{listText, node, route, formLine}
+use Rattle.forms.specs.Request.{nodeOf}
+use Rattle.forms.specs.Answer.{lineText, answerText, associationLine}
 use Rattle.forms.proofs.Decimal.{width-most}
-use Rattle.forms.proofs.Lists.{width-list}
-use Rattle.forms.proofs.Credentials.{list-end, credentials-width}
-use Rattle.forms.proofs.NetworkForms.{kind-width}
+use Rattle.forms.proofs.Lists.{list-end, width-list}
+use Rattle.forms.proofs.LineWidths.{node-width, route-width, association-width}
 
 width-line : (ns : List ℕ) → length (lineText [] ns) ≡ length (listText ns) + 1
 width-line ns = length-append (listText ns) (bytes "\n")
@@ -45,20 +44,6 @@ line-two n m h g =
       list-end,
       width-most 9 n (omega arith),
       width-most 9 m (omega arith),
-    )
-
-line-three : (a b c : ℕ) → a < 2 ^ 8 → b < 2 ^ 16 → c < 2 ^ 16 → length (lineText [] (a ∷ b ∷ c ∷ [])) ≤ 18
-line-three a b c h g k =
-    omega (
-      arith,
-      width-line (a ∷ b ∷ c ∷ []),
-      width-list a (b ∷ c ∷ []),
-      width-list b (c ∷ []),
-      width-list c [],
-      list-end,
-      width-most 2 a (omega arith),
-      width-most 4 b (omega arith),
-      width-most 4 c (omega arith),
     )
 
 -- ---- an answer
@@ -102,33 +87,26 @@ answer-width (No r) vs h = omega (arith, line-one (refusalNumber r) (refusal-sma
 
 -- ---- a line of a report, its numbers having the widths of their types
 
-width-direction : (out : Bool) → length (directionText out) ≤ 4
-width-direction true = omega arith
-width-direction false = omega arith
-
 -- "(assoc 255 out 255 65535 65535)" and its newline
-pub association-width : (x : Association) → x .node < 2 ^ 8 → x .peer < 2 ^ 8 → x .spi .0 < 2 ^ 16 → x .users < 2 ^ 16
+pub association-short : (x : ShownAssociation) → x .node < 2 ^ 8 → x .peer < 2 ^ 8 → x .spi .0 < 2 ^ 16 → x .users < 2 ^ 16
     → length (associationLine x) ≤ 32
-unfolding associationLine
-association-width x h g k j =
-    let ns = x .peer ∷ x .spi .0 ∷ x .users ∷ [] in
-    simp length-append
-    (omega (
+association-short x h g k j =
+    omega (
       arith,
+      association-width x,
       width-most 2 (x .node) (omega arith),
-      width-direction (x .out),
-      width-line ns,
-      line-three (x .peer) (x .spi .0) (x .users) g k j,
-    ))
+      width-most 2 (x .peer) (omega arith),
+      width-most 4 (x .spi .0) (omega arith),
+      width-most 4 (x .users) (omega arith),
+    )
 
 -- "(node 255 host (has 0 .. 63) (needs 0 .. 63))" and its newline
-pub node-line-width : (a : ℕ) (k : Kind) (has needs : List Bool) → a < 2 ^ 8 → length has ≡ 64 → length needs ≡ 64
-    → length (formLine (node a k (credentialsFrom 0 has) (credentialsFrom 0 needs))) ≤ 400
-unfolding text
-node-line-width a k has needs h g j =
-    simp length-append (omega (arith, kind-width k, width-most 2 a (omega arith), credentials-width has g, credentials-width needs j))
+pub node-short : (a : ℕ) (k : Kind) (has needs : List Bool) → a < 2 ^ 8 → length has ≡ 64 → length needs ≡ 64
+    → length (formLine (nodeOf a k has needs)) ≤ 400
+node-short a k has needs h g j = simp length-append (omega (arith, node-width a k has needs g j, width-most 2 a (omega arith)))
 
 -- "(route 255 255 255)" and its newline
-pub route-line-width : (a b next : ℕ) → a < 2 ^ 8 → b < 2 ^ 8 → next < 2 ^ 8 → length (formLine (route a b next)) ≤ 32
-unfolding text
-route-line-width a b next h g j = omega (arith, line-three a b next h (omega arith) (omega arith))
+pub route-short : (a b next : ℕ) → a < 2 ^ 8 → b < 2 ^ 8 → next < 2 ^ 8 → length (formLine (route a b next)) ≤ 32
+route-short a b next h g j =
+    simp length-append
+    (omega (arith, route-width a b next, width-most 2 a (omega arith), width-most 2 b (omega arith), width-most 2 next (omega arith)))

@@ -12,7 +12,7 @@ abbrev pub hasRoom : ℕ → ℕ → ℕ → Bool
 hasRoom room size at = leb (at + room) size
 
 -- where `room` bytes are left, the text is put from place at of the output l on, and next is the place behind it; elsewhere nothing is
--- put, and next is at. The output is left as m, and its other bytes are as they were. The text has at most `room` bytes
+-- put, and next is at. The output is left as m, and its other bytes are as they were. Where it is put, the text has at most `room` bytes
 pub record Writes (room : ℕ) (l : List ℕ) (at : ℕ) (text m : List ℕ) (next : ℕ) : Type 0 where
   pub place : next ≡ cond (hasRoom room (length l) at) (at + length text) at
   pub left : m ≡ cond (hasRoom room (length l) at) (sets l at text) l

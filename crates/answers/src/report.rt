@@ -2,18 +2,19 @@
 // are left than its longest line may have, it writes nothing and answers `at`.
 use crate::put::put_byte;
 use crate::put::put_line;
-use crate::put::put_number;
 use crate::put::put_numbered;
 use crate::put::put_word;
+use crate::room::LONGEST;
+use crate::room::LONGEST_NODE;
 use crate::room::has_room;
-use calculus::answer::Association;
+use calculus::answer::ShownAssociation;
 use calculus::network::Kind;
 ghost use Prim.Native.Nat.{_+_, _≤_};
 ghost use mathlib.Core.List.{_++_};
 ghost use lib.ListN.{length};
 ghost use Rattle.forms.specs.Text as form;
 ghost use Rattle.forms.specs.Text.{listText, kindText, formLine};
-ghost use Rattle.forms.specs.Request.{credentialsFrom};
+ghost use Rattle.forms.specs.Request.{credentialsFrom, nodeOf};
 ghost use Rattle.forms.specs.Answer.{directionText, associationLine, endLine};
 ghost use Rattle.answers.specs.Write.{Writes};
 ghost use Rattle.answers.specs.Put.{Put, credentialText};
@@ -33,7 +34,7 @@ fn put_direction(out: &mut [u8], at: usize, outward: bool) -> usize
 }
 
 // An association's line. The caller has made sure of the room.
-fn put_association(out: &mut [u8], at: usize, x: Association) -> usize
+fn put_association(out: &mut [u8], at: usize, x: ShownAssociation) -> usize
     requires { ⌜ at + length (associationLine x) ≤ length (now out) ⌝ }
     ensures { λ r. ⌜ Put (now (out .entry)) at (associationLine x) (now (out .exit)) r ⌝ }
 {
@@ -44,10 +45,10 @@ fn put_association(out: &mut [u8], at: usize, x: Association) -> usize
 }
 
 // Writes an association's line.
-pub fn write_association(out: &mut [u8], at: usize, x: Association) -> usize
+pub fn write_association(out: &mut [u8], at: usize, x: ShownAssociation) -> usize
     ensures { λ r. ⌜ Writes 32 (now (out .entry)) at (associationLine x) (now (out .exit)) r ⌝ }
 {
-    if has_room(out.len(), at, 32) {
+    if has_room(out.len(), at, LONGEST) {
         return put_association(out, at, x);
     }
     at
@@ -57,7 +58,7 @@ pub fn write_association(out: &mut [u8], at: usize, x: Association) -> usize
 pub fn write_end(out: &mut [u8], at: usize) -> usize
     ensures { λ r. ⌜ Writes 32 (now (out .entry)) at endLine (now (out .exit)) r ⌝ }
 {
-    if has_room(out.len(), at, 32) {
+    if has_room(out.len(), at, LONGEST) {
         return put_word(out, at, b"(end)\n");
     }
     at
@@ -71,8 +72,7 @@ fn put_credential(out: &mut [u8], at: usize, n: u64, held: bool) -> usize
     ensures { λ r. ⌜ Put (now (out .entry)) at (credentialText n held) (now (out .exit)) r ⌝ }
 {
     if held {
-        let next = put_byte(out, at, b' ');
-        return put_number(out, next, n);
+        return put_numbered(out, at, b" ", n);
     }
     at
 }
@@ -111,9 +111,9 @@ fn put_node(
     has: [bool; 64],
     needs: [bool; 64],
 ) -> usize
-    requires { ⌜ at + length (formLine (form.node node kind (credentialsFrom 0 has) (credentialsFrom 0 needs))) ≤ length (now out) ⌝ }
+    requires { ⌜ at + length (formLine (nodeOf node kind has needs)) ≤ length (now out) ⌝ }
     ensures { λ r.
-        ⌜ Put (now (out .entry)) at (formLine (form.node node kind (credentialsFrom 0 has) (credentialsFrom 0 needs))) (now (out .exit)) r ⌝ }
+        ⌜ Put (now (out .entry)) at (formLine (nodeOf node kind has needs)) (now (out .exit)) r ⌝ }
 {
     let p = put_numbered(out, at, b"(node ", node as u64);
     let q = put_kind(out, p, kind);
@@ -122,7 +122,7 @@ fn put_node(
     put_word(out, s, b")\n")
 }
 
-// Writes the line that gives a node; none has more than 400 bytes.
+// Writes the line that gives a node.
 pub fn write_node(
     out: &mut [u8],
     at: usize,
@@ -132,9 +132,9 @@ pub fn write_node(
     needs: [bool; 64],
 ) -> usize
     ensures { λ r.
-        ⌜ Writes 400 (now (out .entry)) at (formLine (form.node node kind (credentialsFrom 0 has) (credentialsFrom 0 needs))) (now (out .exit)) r ⌝ }
+        ⌜ Writes 400 (now (out .entry)) at (formLine (nodeOf node kind has needs)) (now (out .exit)) r ⌝ }
 {
-    if has_room(out.len(), at, 400) {
+    if has_room(out.len(), at, LONGEST_NODE) {
         return put_node(out, at, node, kind, has, needs);
     }
     at
@@ -144,7 +144,7 @@ pub fn write_node(
 pub fn write_route(out: &mut [u8], at: usize, from: u8, destination: u8, hop: u8) -> usize
     ensures { λ r. ⌜ Writes 32 (now (out .entry)) at (formLine (form.route from destination hop)) (now (out .exit)) r ⌝ }
 {
-    if has_room(out.len(), at, 32) {
+    if has_room(out.len(), at, LONGEST) {
         let ns = [from as u64, destination as u64, hop as u64];
         return put_line(out, at, b"(route", &ns);
     }

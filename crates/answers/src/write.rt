@@ -2,10 +2,10 @@
 use crate::put::put_line;
 use crate::put::put_one;
 use crate::put::put_word;
+use crate::room::LONGEST;
 use crate::room::has_room;
 use calculus::answer::Answer;
 ghost use Prim.Native.Nat.{_+_, _≤_};
-ghost use mathlib.Core.List.{[], _∷_};
 ghost use lib.ListN.{length};
 ghost use Rattle.forms.specs.Answer.{answerText};
 ghost use Rattle.answers.specs.Write.{Writes};
@@ -37,7 +37,7 @@ fn put_answer(out: &mut [u8], at: usize, answer: Answer) -> usize
 pub fn write(out: &mut [u8], at: usize, answer: Answer) -> usize
     ensures { λ r. ⌜ Writes 32 (now (out .entry)) at (answerText answer) (now (out .exit)) r ⌝ }
 {
-    if has_room(out.len(), at, 32) {
+    if has_room(out.len(), at, LONGEST) {
         return put_answer(out, at, answer);
     }
     at

@@ -4,7 +4,7 @@ use mathlib.Core.Bool.{Bool, true, false, cond, _&&_}
 use Prim.Native.Nat.{ℕ, _≤_}
 use native.Mathlib.Omega.{arith}
 use lib.Dec.{leb}
-use borrow.Author.Tests.{leb-true}
+use borrow.Author.Tests.{leb-true, le-leb}
 use Rattle.calculus.specs.Number.{within}
 
 -- a case on a test that keeps its equation
@@ -36,6 +36,9 @@ never e = clash cc
 pub both : (a b : Bool) → (a && b) ≡ true → (a ≡ true) × (b ≡ true)
 both true b e = (refl, e)
 both false b e = never e
+
+pub bounds-within : (low high n : ℕ) → low ≤ n → n ≤ high → within low high n ≡ true
+bounds-within low high n h g = rw (le-leb low n h, le-leb n high g)
 
 pub within-bounds : (low high n : ℕ) → within low high n ≡ true → (low ≤ n) × (n ≤ high)
 within-bounds low high n e =

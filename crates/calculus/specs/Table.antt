@@ -1,4 +1,4 @@
--- Tables walked in order. Assumes nothing.
+-- Tables walked in order, for the texts of a set, of show and of a network. Assumes nothing.
 use Prim.Native.Nat.{ℕ, _+_}
 use mathlib.Core.Bool.{Bool, cond}
 use mathlib.Core.List.{List, [], _∷_, _++_}
@@ -8,6 +8,6 @@ unfoldable pub entriesFrom : {A B : Type 0} → (ℕ → A → List B) → ℕ �
 entriesFrom f k [] = []
 entriesFrom f k (x ∷ l) = f k x ++ entriesFrom f (k + 1) l
 
--- x, where the test holds
+-- x alone where the test holds, else nothing
 abbrev pub onlyIf : {A : Type 0} → Bool → A → List A
 onlyIf b x = cond b (x ∷ []) []

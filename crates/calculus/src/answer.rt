@@ -90,7 +90,7 @@ pub enum Answer {
 }
 
 // A standing association as show reports it: its direction is out, or in.
-pub struct Association {
+pub struct ShownAssociation {
     pub node: u8,
     pub out: bool,
     pub peer: u8,

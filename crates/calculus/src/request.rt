@@ -44,9 +44,9 @@ pub enum Request {
     Net,
 }
 
-// Whose lines answer a request: its answer's, or a report's.
+// The report that a request asks for; where it asks for none, its answer is one line.
 pub enum Report {
-    OneAnswer,
+    NoReport,
     AllAssociations,
     WholeNetwork,
 }

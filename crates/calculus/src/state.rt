@@ -23,7 +23,7 @@ pub struct State {
     pub users: [u16; 2048],
 }
 
-// What a call answers, and the state that it leaves.
+// What a call that asks for no report answers, and the state that it leaves.
 pub struct Turn {
     pub state: State,
     pub answer: Answer,

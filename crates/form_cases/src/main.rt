@@ -5,9 +5,9 @@ use answers::report::write_node;
 use answers::report::write_route;
 use answers::write::write;
 use calculus::answer::Answer;
-use calculus::answer::Association;
 use calculus::answer::Loss;
 use calculus::answer::Refusal;
+use calculus::answer::ShownAssociation;
 use calculus::network::Kind;
 use calculus::number::ItemNumber;
 use calculus::number::Spi;
@@ -160,7 +160,7 @@ fn put_answers() {
     put_answer(Answer::Delivered(4294967295));
     put_answer(Answer::Closed);
     put_association(association());
-    put_association(Association {
+    put_association(ShownAssociation {
         node: 32,
         out: true,
         peer: 31,
@@ -174,8 +174,8 @@ fn put_answers() {
 
 // ---- lines of reports, each as an answer is put
 
-fn association() -> Association {
-    Association {
+fn association() -> ShownAssociation {
+    ShownAssociation {
         node: 1,
         out: false,
         peer: 2,
@@ -184,7 +184,7 @@ fn association() -> Association {
     }
 }
 
-fn put_association(x: Association) {
+fn put_association(x: ShownAssociation) {
     let mut out = [b'.'; 40];
     write_association(&mut out, 4, x);
     put(&out);

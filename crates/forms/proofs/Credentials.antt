@@ -1,34 +1,31 @@
 -- The credentials of a set, rising: read again they give the set, and their list is short enough for a line. Assumes nothing.
-use mathlib.Core.Path.{_≡_, refl, sym, ap, _∙_}
-use mathlib.Core.Bool.{Bool, true, false, cond}
+use mathlib.Core.Path.{_≡_, refl, ap, _∙_}
+use mathlib.Core.Bool.{Bool, true, false}
 use mathlib.Core.List.{List, [], _∷_, _++_}
-use Prim.Native.Nat.{ℕ, suc, _+_, _-_, _*_, _^_, _≤_, _<_}
+use Prim.Native.Nat.{ℕ, suc, _+_, _-_, _*_, _≤_, _<_}
 use native.Mathlib.Omega.{arith}
 use lib.Dec.{ltb}
-use borrow.Author.Tests.{le-leb, ltb-true, ltb-false}
+use borrow.Author.Tests.{ltb-true, ltb-false}
 use lib.ListN.{length, replicate, set, length-append}
 use lib.Seq.{append-snoc, set-append-seam}
-use Rattle.calculus.specs.Number.{within}
 use Rattle.calculus.specs.Table.{entriesFrom, onlyIf}
 use Rattle.calculus.proofs.Table.{perhaps}
+use Rattle.calculus.proofs.Tests.{bounds-within}
 use Rattle.forms.specs.Bytes.{decimal}
 use Rattle.forms.specs.Text.{listText}
 use Rattle.forms.specs.Exact.{Digits}
 use Rattle.forms.specs.Request.{rising, holding, credentialsFrom, noCredentials}
 use Rattle.forms.proofs.Decimal.{width-most}
-use Rattle.forms.proofs.Lists.{width-list}
+use Rattle.forms.proofs.Lists.{list-end, width-list}
 
 -- ---- they are rising, and in range
-
-within-true : (low high n : ℕ) → low ≤ n → n ≤ high → within low high n ≡ true
-within-true low high n h g = rw (le-leb low n h, le-leb n high g)
 
 members-rising : (s : List Bool) (n least : ℕ) → least ≤ n → n + length s ≤ 64 → rising least (credentialsFrom n s) ≡ true
 unfolding entriesFrom
 members-rising [] n least h g = refl
 members-rising (b ∷ s) n least h g =
     perhaps (λ (x : List ℕ). rising least x ≡ true) b
-    (λ e. rw (within-true least 63 n h (omega arith)) (members-rising s (n + 1) (n + 1) (omega arith) (omega arith)))
+    (λ e. rw (bounds-within least 63 n h (omega arith)) (members-rising s (n + 1) (n + 1) (omega arith) (omega arith)))
     (λ e. members-rising s (n + 1) least (omega arith) (omega arith))
 
 pub credentials-rising : (s : List Bool) → length s ≡ 64 → rising 0 (credentialsFrom 0 s) ≡ true
@@ -56,10 +53,6 @@ pub credentials-same : (s : List Bool) → length s ≡ 64 → holding noCredent
 credentials-same s h = rw h at (holding-members s [])
 
 -- ---- how long their list is
-
-pub list-end : length (listText []) ≡ 1
-unfolding listText
-list-end = refl
 
 -- each takes a space and two digits, but those below 10 only one digit
 number-width : (n : ℕ) → n < 64 → length (decimal n) + (10 - n) ≤ 2 + (10 - (n + 1))

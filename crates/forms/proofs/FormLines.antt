@@ -1,6 +1,6 @@
 -- The lines of forms, split again: no form's text has a newline. Assumes nothing.
 use mathlib.Core.Path.{_≡_, refl, ap, _∙_}
-use mathlib.Core.Bool.{Bool, true, false, cond, not, _&&_}
+use mathlib.Core.Bool.{Bool, true, not, _&&_}
 use mathlib.Core.List.{List, [], _∷_, _++_, map, append-assoc}
 use Prim.Native.Nat.{ℕ, zero, suc, _+_, _/_, _%_}
 use native.Mathlib.Omega.{arith}
@@ -14,11 +14,11 @@ use Rattle.forms.specs.Text.{Form, node, route, «open», step, send, cl
 use Rattle.forms.specs.Line.{lines, withFirst}
 
 -- no byte of l is a newline
-abbrev pub oneLine : List ℕ → Bool
+abbrev oneLine : List ℕ → Bool
 oneLine [] = true
 oneLine (c ∷ l) = not (eqb c 10) && oneLine l
 
-pub one-line-append : (l m : List ℕ) → oneLine l ≡ true → oneLine m ≡ true → oneLine (l ++ m) ≡ true
+one-line-append : (l m : List ℕ) → oneLine l ≡ true → oneLine m ≡ true → oneLine (l ++ m) ≡ true
 one-line-append [] m h g = g
 one-line-append (c ∷ l) m h g =
     let k = both (not (eqb c 10)) (oneLine l) h in
@@ -47,7 +47,7 @@ kind-line : (k : Kind) (l : List ℕ) → oneLine l ≡ true → oneLine (kindTe
 kind-line Host l h = h
 kind-line Gateway l h = h
 
-pub text-line : (f : Form) → oneLine (text f) ≡ true
+text-line : (f : Form) → oneLine (text f) ≡ true
 unfolding text
 text-line (node a k has needs) =
     one-line-append (decimal a) _ (decimal-line a)

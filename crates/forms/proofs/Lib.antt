@@ -15,5 +15,6 @@ pub mod Splits
 pub mod Credentials
 pub mod Joined
 pub mod FormLines
+pub mod LineWidths
 pub mod NetworkForms
 pub mod Cases

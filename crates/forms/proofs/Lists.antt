@@ -21,6 +21,10 @@ use Rattle.forms.proofs.Words.{starts-sound, front-inside, front-whole}
 use Rattle.forms.proofs.Numbers.{Numeral, number-sound, number-complete}
 
 -- a space, the number, and the others
+pub list-end : length (listText []) ≡ 1
+unfolding listText
+list-end = refl
+
 pub width-list : (n : ℕ) (ns : List ℕ) → length (listText (n ∷ ns)) ≡ 1 + (length (decimal n) + length (listText ns))
 unfolding listText
 width-list n ns = omega (arith, length-append (decimal n) (listText ns))

@@ -38,7 +38,8 @@ pub pick : {b t : Bool} {r : Reading} (read : List ℕ → Option Form) (k : ℕ
 pick read k p y q e n h = h ∙ rest (λ m. asked (read m)) k (p .line) ∙ rw (p .same, q, join e n)
 
 -- the word of a form that has no numbers
-pub pick-bare : {b t : Bool} {r : Reading} (form : List ℕ → Form) (a : request.Request) → ((ns : List ℕ) → reading (form ns) ≡ plain (Asks a)) → (k : ℕ) (p : Left) (y : Option Form)
+pub pick-bare : {b t : Bool} {r : Reading} (form : List ℕ → Form) (a : request.Request)
+    → ((ns : List ℕ) → reading (form ns) ≡ plain (Asks a)) → (k : ℕ) (p : Left) (y : Option Form)
     → p .left ≡ cond t (formWith form (fields 10 0 (drop k (p .line)))) y → b ≡ t → b ≡ true
     → r ≡ bareReading a (fields 10 0 (take (length (p .line) - k) (drop k (p .line)))) → r ≡ asked (p .whole)
 pick-bare form a w k p y q e n h =

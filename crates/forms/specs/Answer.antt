@@ -5,7 +5,7 @@ use mathlib.Core.List.{List, [], _∷_, _++_}
 use Rattle.calculus.specs.Answer.{refusalNumber, lossNumber}
 use Rattle.calculus.specs.declared.answer.Answer as answer
 use Rattle.calculus.specs.declared.answer.Answer.the-variants.{Ok, Made, MadeTwo, Lost, Denied, Opened, Delivered, Closed, No}
-use Rattle.calculus.specs.declared.answer.Association.{Association}
+use Rattle.calculus.specs.declared.answer.ShownAssociation.{ShownAssociation}
 use Rattle.forms.specs.Bytes.{bytes, decimal, joined}
 use Rattle.forms.specs.Text.{listText}
 
@@ -31,7 +31,7 @@ directionText true = bytes " out"
 directionText false = bytes " in"
 
 -- an association's line, with its newline
-unfoldable pub associationLine : Association → List ℕ
+unfoldable pub associationLine : ShownAssociation → List ℕ
 associationLine x =
     joined (bytes "(assoc " ∷ decimal (x .node) ∷ directionText (x .out) ∷ lineText [] (x .peer ∷ x .spi .0 ∷ x .users ∷ []) ∷ [])
 

@@ -7,6 +7,7 @@ use lib.ListN.{set, replicate}
 use Rattle.calculus.specs.Number.{within, isNode, isSession, isItem, isTag, senderOf}
 use Rattle.calculus.specs.Table.{entriesFrom, onlyIf}
 use Rattle.calculus.specs.declared.answer.Refusal.the-variants.{Unreadable, Range}
+use Rattle.calculus.specs.declared.network.Kind.{Kind}
 use Rattle.calculus.specs.declared.request.Request as request
 use Rattle.calculus.specs.declared.request.Request.the-variants.{Node, Route, Open, Step, Send, Close, Show, Net}
 use Rattle.forms.specs.declared.read.Parsed.{Parsed}
@@ -24,9 +25,13 @@ abbrev pub holding : List Bool → List ℕ → List Bool
 holding s [] = s
 holding s (n ∷ ns) = holding (set s n true) ns
 
--- the credentials n, n + 1, .. that a set holds, by the rest of it: rising
+-- the credentials that a set holds, rising; s is the set from credential n on
 abbrev pub credentialsFrom : ℕ → List Bool → List ℕ
 credentialsFrom n s = entriesFrom (λ m held. onlyIf held m) n s
+
+-- the form that gives node a, with these sets
+abbrev pub nodeOf : ℕ → Kind → List Bool → List Bool → Form
+nodeOf a k has needs = node a k (credentialsFrom 0 has) (credentialsFrom 0 needs)
 
 -- the empty set
 abbrev pub noCredentials : List Bool

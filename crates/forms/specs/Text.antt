@@ -16,10 +16,14 @@ pub data Form : Type 0 where
   show : Form
   net : Form
 
+-- a number behind a space
+abbrev pub numberText : ℕ → List ℕ
+numberText n = bytes " " ++ decimal n
+
 -- " 1 4 2)": each number behind a space, then a closing bracket
 unfoldable pub listText : List ℕ → List ℕ
 listText [] = bytes ")"
-listText (n ∷ ns) = bytes " " ++ (decimal n ++ listText ns)
+listText (n ∷ ns) = numberText n ++ listText ns
 
 -- a node's kind, behind its number
 abbrev pub kindText : Kind → List ℕ

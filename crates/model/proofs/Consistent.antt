@@ -91,7 +91,8 @@ consistent-route n a b next e f h =
     for : Node b
     for = given-node n b (nodes-given n a b next e .for)
 
-    go : (c d m : ℕ) → Hop (withRoute n a b next) c d m → Dec (routePlace c d ≡ routePlace a b) → (nodesGiven n c d m ≡ true) × (leadsBack c d m ≡ false)
+    go : (c d m : ℕ) → Hop (withRoute n a b next) c d m → Dec (routePlace c d ≡ routePlace a b)
+        → (nodesGiven n c d m ≡ true) × (leadsBack c d m ≡ false)
     go c d m x (yes w) =
         let s = same-place c d a b (x .at) (x .for) at for w in
         let stored : getD (set (n .routes) (routePlace a b) next) (routePlace a b) 0 ≡ m = rw w at (x .stored) in

@@ -28,6 +28,8 @@ pub mod Refusals
 pub mod ShowLines
 pub mod Show
 pub mod Ordered
+pub mod Gives
+pub mod Fills
 pub mod GivenBack
 pub mod Listings
 pub mod Turns

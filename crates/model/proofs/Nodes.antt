@@ -1,7 +1,6 @@
 -- A consistent network: its routes lead to nodes that were given, and its gateways were given. Assumes nothing.
-use mathlib.Core.Path.{_≡_, refl, ap, _∙_}
-use mathlib.Core.Bool.{Bool, true, false, cond, _&&_, _||_}
-use mathlib.Core.List.{List}
+use mathlib.Core.Path.{_≡_, refl, _∙_}
+use mathlib.Core.Bool.{Bool, true, false, cond, _&&_}
 use Prim.Native.Nat.{ℕ, _-_}
 use lib.Dec.{eqb}
 use borrow.Author.Tests.{eqb-false, ne-eqb}
@@ -30,12 +29,12 @@ given-node n a = go (isNode a) (getD (n .nodes) (a - 1) noNode)
     go false x h = never h
 
 -- each of three nodes
-pub record Given (n : Network) (a b next : ℕ) : Type 0 where
+pub record AllGiven (n : Network) (a b next : ℕ) : Type 0 where
   pub at : given n a ≡ true
   pub for : given n b ≡ true
   pub by : given n next ≡ true
 
-pub nodes-given : (n : Network) (a b next : ℕ) → nodesGiven n a b next ≡ true → Given n a b next
+pub nodes-given : (n : Network) (a b next : ℕ) → nodesGiven n a b next ≡ true → AllGiven n a b next
 nodes-given n a b next e =
     let i = both (given n a) (given n b && given n next) e in
     let j = both (given n b) (given n next) (i .1) in
@@ -116,5 +115,6 @@ module _ (n : Network) (h : Consistent n) where
       record {
         routes = λ a b next e. nodes-given n a b next (h .routed a b next e .0) .by;
         gateways = λ a.
-            either GivenGateway (isNode a) (λ e. place-gateway _ (all-get IsPlace (n .nodes) (a - 1) noNode (h .places) empty-place)) (λ e k. never k);
+            either GivenGateway (isNode a)
+            (λ e. place-gateway _ (all-get IsPlace (n .nodes) (a - 1) noNode (h .places) empty-place)) (λ e k. never k);
       }

@@ -1,12 +1,10 @@
--- A refused call changes nothing, and every call is refused or answered. Assumes nothing.
+-- A refused call changes nothing, and every call is refused, answered or gets a report. Assumes nothing.
 use mathlib.Core.Path.{_≡_, refl, sym, subst}
-use mathlib.Core.Bool.{Bool, true, false}
-use mathlib.Core.List.{List}
+use mathlib.Core.Bool.{Bool, false}
 use mathlib.Core.Option.{Option, none, some}
 use Prim.Native.Nat.{ℕ}
 use lib.Dec.{ltb}
-use Rattle.calculus.proofs.Tests.{never, either}
-use Rattle.calculus.specs.declared.answer.Answer.{Answer}
+use Rattle.calculus.proofs.Tests.{either}
 use Rattle.calculus.specs.declared.answer.Refusal.{Refusal}
 use Rattle.calculus.specs.declared.answer.Refusal.the-variants.{Short}
 use Rattle.calculus.specs.declared.effect.Outcome.{Outcome}

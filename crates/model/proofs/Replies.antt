@@ -7,7 +7,7 @@ use native.Mathlib.Omega.{arith}
 use lib.Dec.{ltb, eqb}
 use borrow.Author.Tests.{eqb-false, not-false}
 use Rattle.calculus.specs.Number.{isSession}
-use Rattle.calculus.proofs.Tests.{within-bounds, both, never, either}
+use Rattle.calculus.proofs.Tests.{within-bounds, never, either}
 use Rattle.calculus.specs.declared.network.Kind.{Kind}
 use Rattle.calculus.specs.declared.network.Network.{Network}
 use Rattle.calculus.specs.declared.request.Request as request

@@ -11,34 +11,30 @@ use lib.Seq.{getD-take, getD-drop}
 use Rattle.calculus.proofs.Tests.{both, never}
 use Rattle.calculus.proofs.Table.{perhaps}
 use Rattle.calculus.specs.Table.{entriesFrom, onlyIf}
-use Rattle.calculus.specs.declared.answer.Association.{Association}
-use Rattle.model.specs.Row.{sameWay, spiOf, usersPlace, areNodes, usersOf}
+use Rattle.calculus.specs.declared.answer.ShownAssociation.{ShownAssociation}
+use Rattle.model.specs.Row.{sameWay, usersPlace, areNodes, usersOf}
 use Rattle.model.specs.Requests.{association, associations, shown}
 use Rattle.model.specs.Show.{isFor, allFor, Show}
 use borrow.Author.Tests.{eqb-true, le-leb, ne-eqb}
-use Rattle.model.proofs.ShowLines.{ins, outs, withUsers, peers-all, nodes-all, shown-fits}
+use Rattle.model.proofs.ShowLines.{ins, outs, shownWith, peers-all, nodes-all, shown-fits}
 use Rattle.model.specs.Lists.{All}
 use Rattle.model.proofs.Lists.{all-of}
 use Rattle.model.proofs.Users.{same-itself, node-bounds}
 
 -- ---- one association
 
-for-append : (out : Bool) (a q : ℕ) (l m : List Association) → allFor out a q (l ++ m) ≡ allFor out a q l ++ allFor out a q m
+for-append : (out : Bool) (a q : ℕ) (l m : List ShownAssociation) → allFor out a q (l ++ m) ≡ allFor out a q l ++ allFor out a q m
 for-append out a q [] m = refl
 for-append out a q (x ∷ l) m = go (isFor out a q x) (for-append out a q l m)
   where
     go : (b : Bool) → allFor out a q (l ++ m) ≡ allFor out a q l ++ allFor out a q m
         → cond b (x ∷ allFor out a q (l ++ m)) (allFor out a q (l ++ m))
         ≡ cond b (x ∷ allFor out a q l) (allFor out a q l) ++ allFor out a q m
-    go true h = ap (λ (y : List Association). x ∷ y) h
+    go true h = ap (λ (y : List ShownAssociation). x ∷ y) h
     go false h = h
 
--- the line of an association with n users, if it stands
-abbrev ifStanding : Bool → ℕ → ℕ → ℕ → List Association
-ifStanding out a q n = onlyIf (ltb 0 n) (withUsers out a q n)
-
 module _ (out : Bool) (a q : ℕ) where
-  abbrev Apart : List Association → Type 0
+  abbrev Apart : List ShownAssociation → Type 0
   Apart l = allFor out a q l ≡ []
 
   node-lines : (k b : ℕ) (l : List ℕ)
@@ -47,14 +43,14 @@ module _ (out : Bool) (a q : ℕ) where
   unfolding associations
   node-lines k b l =
       for-append out a q (ins b l) (outs b l ++ associations k (b + 1) (drop 64 l))
-      ∙ ap (λ (x : List Association). allFor out a q (ins b l) ++ x) (for-append out a q (outs b l) (associations k (b + 1) (drop 64 l)))
+      ∙ ap (λ (x : List ShownAssociation). allFor out a q (ins b l) ++ x) (for-append out a q (outs b l) (associations k (b + 1) (drop 64 l)))
 
   -- ---- the lines of others
 
-  abbrev Other : Association → Type 0
+  abbrev Other : ShownAssociation → Type 0
   Other x = isFor out a q x ≡ false
 
-  all-apart : (l : List Association) → All Other l → Apart l
+  all-apart : (l : List ShownAssociation) → All Other l → Apart l
   all-apart [] h = refl
   all-apart (x ∷ l) h = rw (h .0) (all-apart l (h .1))
 
@@ -78,20 +74,20 @@ module _ (out : Bool) (a q : ℕ) where
   peer-apart : (r : ℕ) → (r ≡ q → ⊥) → (sameWay out out && (eqb a a && eqb r q)) ≡ false
   peer-apart r ne = rw (ne-eqb r q ne, and-false, and-false)
 
-  head-own : (n : ℕ) (rest : List Association) → Apart rest
-      → allFor out a q (onlyIf (ltb 0 n) (withUsers out a q n) ++ rest) ≡ ifStanding out a q n
+  head-own : (n : ℕ) (rest : List ShownAssociation) → Apart rest
+      → allFor out a q (onlyIf (ltb 0 n) (shownWith out a q n) ++ rest) ≡ association out a q n
   head-own n rest h = go (ltb 0 n)
     where
-      go : (b : Bool) → allFor out a q (onlyIf b (withUsers out a q n) ++ rest) ≡ onlyIf b (withUsers out a q n)
-      go true = rw (same-itself out a q) (ap (λ (x : List Association). withUsers out a q n ∷ x) h)
+      go : (b : Bool) → allFor out a q (onlyIf b (shownWith out a q n) ++ rest) ≡ onlyIf b (shownWith out a q n)
+      go true = rw (same-itself out a q) (ap (λ (x : List ShownAssociation). shownWith out a q n ∷ x) h)
       go false = h
 
-  head-other : (p n : ℕ) (rest : List Association) → (p ≡ q → ⊥)
-      → allFor out a q (onlyIf (ltb 0 n) (withUsers out a p n) ++ rest) ≡ allFor out a q rest
+  head-other : (p n : ℕ) (rest : List ShownAssociation) → (p ≡ q → ⊥)
+      → allFor out a q (onlyIf (ltb 0 n) (shownWith out a p n) ++ rest) ≡ allFor out a q rest
   head-other p n rest ne =
-      perhaps (λ (x : List Association). allFor out a q x ≡ allFor out a q rest) (ltb 0 n) (λ e. rw (peer-apart p ne)) (λ e. refl)
+      perhaps (λ (x : List ShownAssociation). allFor out a q x ≡ allFor out a q rest) (ltb 0 n) (λ e. rw (peer-apart p ne)) (λ e. refl)
 
-  peers-own : (j p : ℕ) (l : List ℕ) → p + j ≡ q → allFor out a q (entriesFrom (association out a) p l) ≡ ifStanding out a q (getD l j 0)
+  peers-own : (j p : ℕ) (l : List ℕ) → p + j ≡ q → allFor out a q (entriesFrom (association out a) p l) ≡ association out a q (getD l j 0)
   unfolding entriesFrom
   peers-own j p [] e = refl
   peers-own zero p (n ∷ l) e =
@@ -100,9 +96,9 @@ module _ (out : Bool) (a q : ℕ) where
   peers-own (suc j) p (n ∷ l) e = head-other p n (entriesFrom (association out a) (p + 1) l) (λ z. omega arith) ∙ peers-own j (p + 1) l (omega arith)
 
   module _ (hq : (1 ≤ q) × (q ≤ 32)) where
-    own-users : (l : List ℕ) → allFor out a q (entriesFrom (association out a) 1 (take 32 l)) ≡ ifStanding out a q (getD l (q - 1) 0)
+    own-users : (l : List ℕ) → allFor out a q (entriesFrom (association out a) 1 (take 32 l)) ≡ association out a q (getD l (q - 1) 0)
     own-users l =
-        peers-own (q - 1) 1 (take 32 l) (omega (arith, hq)) ∙ ap (ifStanding out a q) (getD-take 32 l (q - 1) 0 (omega (arith, hq)))
+        peers-own (q - 1) 1 (take 32 l) (omega (arith, hq)) ∙ ap (association out a q) (getD-take 32 l (q - 1) 0 (omega (arith, hq)))
 
 -- the place of the users of the node j after the first
 abbrev placeFrom : Bool → ℕ → ℕ → ℕ
@@ -110,10 +106,10 @@ placeFrom out j q = 64 * j + cond out 32 0 + (q - 1)
 
 -- the line among those of its own node
 node-own : (out : Bool) (a q : ℕ) → (1 ≤ q) × (q ≤ 32) → (l : List ℕ)
-    → allFor out a q (ins a l) ++ allFor out a q (outs a l) ≡ ifStanding out a q (getD l (placeFrom out 0 q) 0)
+    → allFor out a q (ins a l) ++ allFor out a q (outs a l) ≡ association out a q (getD l (placeFrom out 0 q) 0)
 node-own true a q h l =
     rw (peers-apart true a q false a 1 (take 32 l) (λ r i j. refl))
-    (own-users true a q h (drop 32 l) ∙ ap (ifStanding true a q) (getD-drop 32 l (q - 1) 0))
+    (own-users true a q h (drop 32 l) ∙ ap (association true a q) (getD-drop 32 l (q - 1) 0))
 node-own false a q h l =
     rw (peers-apart false a q true a 1 (take 32 (drop 32 l)) (λ r i j. refl), append-nil, zero-add (q - 1)) (own-users false a q h l)
 
@@ -133,7 +129,7 @@ not-both a q x p e hx hp =
 
 module _ (out : Bool) (a q : ℕ) where
   nodes-own : (1 ≤ q) × (q ≤ 32) → (k j b : ℕ) (l : List ℕ) → b + j ≡ a → j < k
-      → allFor out a q (associations k b l) ≡ ifStanding out a q (getD l (placeFrom out j q) 0)
+      → allFor out a q (associations k b l) ≡ association out a q (getD l (placeFrom out j q) 0)
   nodes-own h zero j b l e i = absurd (omega arith)
   nodes-own h (suc k) zero b l e i =
       let w : b ≡ a = omega arith in
@@ -146,14 +142,14 @@ module _ (out : Bool) (a q : ℕ) where
       node-lines out a q k b l
       ∙ rw (node-apart out a q false b 1 (take 32 l) ne, node-apart out a q true b 1 (take 32 (drop 32 l)) ne)
       (nodes-own h k j (b + 1) (drop 64 l) (omega arith) (omega arith)
-      ∙ ap (ifStanding out a q) (getD-drop 64 l (placeFrom out j q) 0 ∙ ap (λ (n : ℕ). getD l n 0) w))
+      ∙ ap (association out a q) (getD-drop 64 l (placeFrom out j q) 0 ∙ ap (λ (n : ℕ). getD l n 0) w))
 
   -- the line among all of show's lines
-  shown-once : (l : List ℕ) → allFor out a q (shown l) ≡ ifStanding out a q (usersOf l out a q)
+  shown-once : (l : List ℕ) → allFor out a q (shown l) ≡ association out a q (usersOf l out a q)
   unfolding shown usersOf
   shown-once l = go (areNodes a q) refl
     where
-      go : (b : Bool) → areNodes a q ≡ b → allFor out a q (associations 32 1 l) ≡ ifStanding out a q (cond b (getD l (usersPlace out a q) 0) 0)
+      go : (b : Bool) → areNodes a q ≡ b → allFor out a q (associations 32 1 l) ≡ association out a q (cond b (getD l (usersPlace out a q) 0) 0)
       go true e =
           let b = node-bounds a q e in
           nodes-own (b .2, b .3) 32 (a - 1) 1 l (omega (arith, b)) (omega (arith, b))

@@ -1,5 +1,4 @@
 -- What holds of each association that show reports, and that their lines fit into the lent output. Assumes nothing.
-use mathlib.Core.Path.{_≡_, refl}
 use mathlib.Core.Bool.{Bool, true, false, _&&_}
 use mathlib.Core.List.{List, [], _∷_, _++_, map}
 use Prim.Native.Nat.{ℕ, zero, suc, _+_, _*_, _≤_, _<_}
@@ -9,13 +8,11 @@ use lib.ListN.{length, take, drop, length-take, length-append}
 use Rattle.calculus.specs.Number.{isNode, spi}
 use Rattle.calculus.specs.Table.{entriesFrom}
 use Rattle.calculus.proofs.Tests.{either}
-use Rattle.calculus.specs.declared.answer.Association.{Association}
+use Rattle.calculus.specs.declared.answer.ShownAssociation.{ShownAssociation}
 use Rattle.forms.specs.Bytes.{joined}
-use Rattle.forms.specs.Text.{listText}
-use Rattle.forms.specs.Answer.{directionText, associationLine, endLine}
+use Rattle.forms.specs.Answer.{associationLine, endLine}
 use Rattle.forms.proofs.Decimal.{width-most}
-use Rattle.forms.proofs.Lists.{width-list}
-use Rattle.forms.proofs.Credentials.{list-end}
+use Rattle.forms.proofs.LineWidths.{association-width}
 use Rattle.forms.proofs.Joined.{lines-append, joined-append}
 use Rattle.model.specs.Lists.{All}
 use Rattle.model.specs.Row.{spiOf}
@@ -25,24 +22,24 @@ use Rattle.model.proofs.Lists.{all-append, all-take, all-drop}
 use Rattle.model.proofs.Tables.{only-all, entries-all, only-width, entries-width}
 
 -- node b's associations in, and those out, by the users from its places on
-abbrev pub ins : ℕ → List ℕ → List Association
+abbrev pub ins : ℕ → List ℕ → List ShownAssociation
 ins b l = entriesFrom (association false b) 1 (take 32 l)
 
-abbrev pub outs : ℕ → List ℕ → List Association
+abbrev pub outs : ℕ → List ℕ → List ShownAssociation
 outs b l = entriesFrom (association true b) 1 (take 32 (drop 32 l))
 
-abbrev pub withUsers : Bool → ℕ → ℕ → ℕ → Association
-withUsers out a q n = record { node = a; out = out; peer = q; spi = spiOf out a q; users = n }
+abbrev pub shownWith : Bool → ℕ → ℕ → ℕ → ShownAssociation
+shownWith out a q n = record { node = a; out = out; peer = q; spi = spiOf out a q; users = n }
 
 -- ---- each association
 
-module _ (P : Association → Type 0) (Q : ℕ → Type 0) where
+module _ (P : ShownAssociation → Type 0) (Q : ℕ → Type 0) where
   pub peers-all : (out : Bool) (a q : ℕ) (l : List ℕ) → All Q l
-      → ((p n : ℕ) → q ≤ p → p < q + length l → Q n → P (withUsers out a p n)) → All P (entriesFrom (association out a) q l)
+      → ((p n : ℕ) → q ≤ p → p < q + length l → Q n → P (shownWith out a p n)) → All P (entriesFrom (association out a) q l)
   peers-all out a q l k h = entries-all P Q (association out a) q l k (λ p n i j u. only-all P (ltb 0 n) (λ e. h p n i j u))
 
   pub nodes-all : (k a : ℕ) (l : List ℕ) → All Q l
-      → ((out : Bool) (b p n : ℕ) → a ≤ b → b < a + k → 1 ≤ p → p ≤ 32 → Q n → P (withUsers out b p n)) → All P (associations k a l)
+      → ((out : Bool) (b p n : ℕ) → a ≤ b → b < a + k → 1 ≤ p → p ≤ 32 → Q n → P (shownWith out b p n)) → All P (associations k a l)
   unfolding associations
   nodes-all zero a l u h = tt
   nodes-all (suc k) a l u h =
@@ -63,33 +60,23 @@ spi-of-most : (out : Bool) (a q : ℕ) → spiOf out a q .0 ≤ 1279
 spi-of-most true a q = spi-most q a
 spi-of-most false a q = spi-most a q
 
-direction-width : (out : Bool) → length (directionText out) ≤ 4
-direction-width true = omega arith
-direction-width false = omega arith
-
 -- the longest: "(assoc 32 out 32 1279 65535)" and its newline
-pub line-width : (out : Bool) (a q n : ℕ) → a ≤ 32 → q ≤ 32 → n ≤ 65535 → length (associationLine (withUsers out a q n)) ≤ 29
-unfolding associationLine
+pub line-width : (out : Bool) (a q n : ℕ) → a ≤ 32 → q ≤ 32 → n ≤ 65535 → length (associationLine (shownWith out a q n)) ≤ 29
 line-width out a q n ha hq hn =
-    let v = spiOf out a q .0 in
-    simp length-append
-    (omega (
+    omega (
       arith,
-      direction-width out,
-      list-end,
-      width-list q (v ∷ n ∷ []),
-      width-list v (n ∷ []),
-      width-list n [],
+      association-width (shownWith out a q n),
       width-most 1 a (omega arith),
       width-most 1 q (omega arith),
-      width-most 3 v (omega (arith, spi-of-most out a q)),
+      width-most 3 (spiOf out a q .0) (omega (arith, spi-of-most out a q)),
       width-most 4 n (omega arith),
-    ))
+    )
 
 abbrev Few : ℕ → Type 0
 Few n = n ≤ 65535
 
-peers-width : (out : Bool) (a : ℕ) (l : List ℕ) → a ≤ 32 → All Few l → length (joined (map associationLine (entriesFrom (association out a) 1 (take 32 l)))) ≤ 928
+peers-width : (out : Bool) (a : ℕ) (l : List ℕ) → a ≤ 32 → All Few l
+    → length (joined (map associationLine (entriesFrom (association out a) 1 (take 32 l)))) ≤ 928
 peers-width out a l h u =
     omega (
       arith,

@@ -25,7 +25,7 @@ use Rattle.forms.specs.declared.read.Reading.{Reading}
 use Rattle.model.specs.Row.{oneMore, oneLess, lowered, stands}
 use Rattle.model.specs.State.{load, store, blankSession}
 use Rattle.model.specs.Requests.{Check, checked, refused, accepted, nodeTurn, routeTurn, Move, refuse, moved, openMove, stepMove, sendMove, closeMove, changed, performed}
-use Rattle.model.specs.Calls.{Lines, answer, Reply, refusalIn, oneAnswer, requested, replied, repliedTo}
+use Rattle.model.specs.Calls.{answer, Reply, refusalIn, oneAnswer, requested, replied, repliedTo}
 use Rattle.model.specs.Turn.{staying, moving, usersAfter, sessionOf, requestedOf, turnOf, usersWith, usersOf, isOk, networkOf, reportOf, linesAs, stateWith, Parts, Held}
 use Rattle.model.proofs.Checks.{checked-either}
 use Rattle.model.proofs.Users.{fold-length}

@@ -5,7 +5,7 @@ use mathlib.Core.List.{List, [], _∷_}
 use Prim.Native.Nat.{ℕ, zero, suc, _+_, _≤_, _<_}
 use native.Mathlib.Omega.{arith}
 use lib.Dec.{eqb}
-use lib.ListN.{length, getD, set, length-set}
+use lib.ListN.{length, set, length-set}
 use borrow.Author.Tests.{eqb-true}
 use Rattle.calculus.proofs.Tests.{both, never, either}
 use Rattle.calculus.specs.declared.effect.Outcome.{Outcome}

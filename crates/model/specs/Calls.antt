@@ -32,6 +32,10 @@ pub data Lines : Type 0 where
   answer : Answer → Lines
   report : List (List ℕ) → Lines
 
+-- nothing is written
+abbrev pub noLines : Lines
+noLines = report []
+
 -- what a call writes and leaves; `refusal` is what it returns, if refused
 pub record Reply : Type 0 where
   pub state : State
@@ -59,7 +63,7 @@ reported s ls = record { state = s; lines = report ls; refusal = none }
 
 -- refusal 0: "nothing written"
 abbrev pub short : State → Reply
-short s = record { state = s; lines = report []; refusal = some Short }
+short s = record { state = s; lines = noLines; refusal = some Short }
 
 -- a request with its credentials, if it is a node's
 unfoldable pub requested : State → List Bool → List Bool → request.Request → Reply

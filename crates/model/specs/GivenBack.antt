@@ -1,9 +1,11 @@
 -- The network's text gives that network again, and no other (document 02, #101). Proved in proofs/GivenBack. Assumes nothing.
 use Prim.Native.Nat.{ℕ, _+_, _*_, _≤_, _<_}
 use mathlib.Core.Path.{_≡_}
-use mathlib.Core.Bool.{true, false}
+use mathlib.Core.Bool.{true, false, cond}
 use mathlib.Core.List.{List, [], _∷_, map}
 use mathlib.Core.Logic.{_↔_}
+use mathlib.Core.Option.{none}
+use lib.Dec.{ltb}
 use lib.ListN.{length}
 use Rattle.calculus.specs.declared.answer.Answer.the-variants.{Ok}
 use Rattle.calculus.specs.declared.network.Network.{Network}
@@ -17,7 +19,7 @@ use Rattle.model.specs.Network.{noNode, nextHop}
 use Rattle.model.specs.NetworkText.{networkForms, networkLines, networkText}
 use Rattle.model.specs.State.{fresh}
 use Rattle.model.specs.Requests.{accepted, nodesGiven, leadsBack}
-use Rattle.model.specs.Calls.{Call, answer, Reply, reported, call, after, replies}
+use Rattle.model.specs.Calls.{answer, report, Reply, short, answered, Call, after, replies}
 use Rattle.model.specs.Texts.{roomyCall, afterLines}
 
 -- ---- the networks that calls leave
@@ -37,10 +39,11 @@ pub record Consistent (n : Network) : Type 0 where
 
 -- ---- the text's order
 
--- where a form stands: nodes by number, then routes by at, then by destination; no other form gives a network
+-- where a form stands. Numbers of nodes are at most 32: so nodes come first, by number; then routes, by at, then by destination. No other
+-- form gives a network
 abbrev pub rank : Form → ℕ
 rank (node a k has needs) = a
-rank (route a b next) = 32 * a + b
+rank (route a b next) = 33 * a + b
 rank («open» u c d) = 0
 rank (step u k) = 0
 rank (send u w tag) = 0
@@ -49,9 +52,9 @@ rank show = 0
 rank net = 0
 
 -- each number is above the one before it, and the first above `least`
-abbrev pub Rising : ℕ → List ℕ → Type 0
-Rising least [] = Unit
-Rising least (n ∷ ns) = (least < n) × Rising n ns
+abbrev pub Ascending : ℕ → List ℕ → Type 0
+Ascending least [] = Unit
+Ascending least (n ∷ ns) = (least < n) × Ascending n ns
 
 -- ---- the text, read
 
@@ -59,19 +62,22 @@ Rising least (n ∷ ns) = (least < n) × Rising n ns
 abbrev pub freshWith : Network → State
 freshWith n = accepted fresh n .state
 
-abbrev pub IsOk : Reply → Type 0
-IsOk r = r .lines ≡ answer Ok
+-- the reply is `(ok)`
+abbrev pub AnsweredOk : Reply → Type 0
+AnsweredOk r = r .lines ≡ answer Ok
 
 pub record GivenBack : Type 0 where
-  -- "(net) writes it", at any time, and changes nothing
-  pub written : (s : State) → call s (roomyCall (text net)) ≡ reported s (networkLines (s .network))
+  -- "(net) writes it", at any time, and changes nothing; of a line that is `(net)` refusal 0 is the only one
+  pub written : (s : State) (size : ℕ)
+      → answered s (text net) size
+      ≡ cond (ltb size 65536) (short s) (record { state = s; lines = report (networkLines (s .network)); refusal = none })
   -- "nodes rising, then routes by at, then by destination"
-  pub ordered : (n : Network) → Consistent n → Rising 0 (map rank (networkForms n))
+  pub ordered : (n : Network) → Consistent n → Ascending 0 (map rank (networkForms n))
   -- whatever is called of a fresh state, the network is consistent
   pub consistent : (cs : List Call) → Consistent (after fresh cs .network)
   -- "Read on a fresh desk, the output gives that network again", and changes nothing else; each line is accepted
   pub again : (n : Network) → Consistent n → afterLines fresh (lines (networkText n)) ≡ freshWith n
-  pub accepts : (n : Network) → Consistent n → All IsOk (replies fresh (map roomyCall (lines (networkText n))))
+  pub accepts : (n : Network) → Consistent n → All AnsweredOk (replies fresh (map roomyCall (lines (networkText n))))
   -- "Two networks are equal exactly when their texts are the same bytes"
   pub equal : (n m : Network) → Consistent n → Consistent m → (n ≡ m) ↔ (networkText n ≡ networkText m)
   -- it fits into the lent output of 65,536 bytes

@@ -1,4 +1,4 @@
--- What document 01 says, in its order, and then the promises.
+-- What document 01 says, in its order, with the network's text of document 02; and then the promises.
 pub mod Lists
 pub mod Network
 pub mod NetworkText

@@ -300,14 +300,15 @@ refusalsInOrder =
     ∷ "(send 1 0 13)" ⇒ "(no 13)" ∷ "(close 1)" ⇒ "(closed)" ∷ "(node 4 host (has) (needs))" ⇒ "(no 5)"
     ∷ []
 
--- #101: whatever the order of the calls, the text has one; refused calls leave no trace, and an open changes nothing
+-- #101: whatever the order of the calls, the text has its own; refused calls leave no trace in it, and an open none
 abbrev pub networkGivenBack : Listing
 networkGivenBack =
     silent "(net)" ∷ "(net 1)" ⇒ "(no 1)" ∷ "(node 3 host (has 7) (needs))" ⇒ "(ok)" ∷ "(net)" ⇒ "(node 3 host (has 7) (needs))"
     ∷ "(node 2 gate (has 0 9 10 63) (needs 5))" ⇒ "(ok)" ∷ "(route 3 2 2)" ⇒ "(ok)" ∷ "(node 1 host (has) (needs))" ⇒ "(ok)"
     ∷ "(route 3 1 2)" ⇒ "(ok)" ∷ "(route 2 3 3)" ⇒ "(ok)" ∷ "(route 1 3 2)" ⇒ "(ok)" ∷ "(route 1 3 3)" ⇒ "(no 3)"
     ∷ "(node 1 gate (has 1) (needs))" ⇒ "(no 3)" ∷ "(open 1 1 3)" ⇒ "(made 1)" ∷ "(step 1 1)" ⇒ "(made 2)"
-    ∷ "(net)" ⇒ "(node 1 host (has) (needs))\n(node 2 gate (has 0 9 10 63) (needs 5))\n(node 3 host (has 7) (needs))\n(route 1 3 2)\n(route 2 3 3)\n(route 3 1 2)\n(route 3 2 2)"
+    ∷ "(net)"
+    ⇒ "(node 1 host (has) (needs))\n(node 2 gate (has 0 9 10 63) (needs 5))\n(node 3 host (has 7) (needs))\n(route 1 3 2)\n(route 2 3 3)\n(route 3 1 2)\n(route 3 2 2)"
     ∷ "(step 1 2)" ⇒ "(made 3 4)" ∷ "(node 4 host (has) (needs))" ⇒ "(no 5)"
     ∷ []
 

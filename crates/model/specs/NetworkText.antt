@@ -6,12 +6,12 @@ use Rattle.calculus.specs.Table.{entriesFrom, onlyIf}
 use Rattle.calculus.specs.declared.network.Network.{Network}
 use Rattle.calculus.specs.declared.network.Node.{Node}
 use Rattle.forms.specs.Bytes.{joined}
-use Rattle.forms.specs.Text.{Form, node, route, formLine}
-use Rattle.forms.specs.Request.{credentialsFrom}
+use Rattle.forms.specs.Text.{Form, route, formLine}
+use Rattle.forms.specs.Request.{nodeOf}
 
 -- the form that gives node a, if it was given
 abbrev pub nodeForm : ℕ → Node → List Form
-nodeForm a x = onlyIf (x .given) (node a (x .kind) (credentialsFrom 0 (x .has)) (credentialsFrom 0 (x .needs)))
+nodeForm a x = onlyIf (x .given) (nodeOf a (x .kind) (x .has) (x .needs))
 
 -- the form that gives the route at place p of the table, which leads to next, if there is one: p is `routePlace` of the two nodes
 abbrev pub routeForm : ℕ → ℕ → List Form
@@ -25,5 +25,6 @@ networkForms n = entriesFrom nodeForm 1 (n .nodes) ++ entriesFrom routeForm 0 (n
 abbrev pub networkLines : Network → List (List ℕ)
 networkLines n = map formLine (networkForms n)
 
+-- these lines, one after the other
 abbrev pub networkText : Network → List ℕ
 networkText n = joined (networkLines n)

@@ -6,7 +6,7 @@ use lib.Dec.{leb, ltb, eqb}
 use lib.ListN.{getD, set, take, drop}
 use Rattle.calculus.specs.declared.answer.Answer.{Answer}
 use Rattle.calculus.specs.declared.answer.Answer.the-variants.{Ok, Made, Closed, No}
-use Rattle.calculus.specs.declared.answer.Association.{Association}
+use Rattle.calculus.specs.declared.answer.ShownAssociation.{ShownAssociation}
 use Rattle.calculus.specs.declared.answer.Refusal.{Refusal}
 use Rattle.calculus.specs.declared.answer.Refusal.the-variants.{Double, Unknown, Late, Taken, Idle, Same, Spent, NoItem, Waiting, Full}
 use Rattle.calculus.specs.declared.answer.Refusal.the-variants as refusal
@@ -233,18 +233,18 @@ inSession s u f = performed s u (f (load s u))
 -- ---- show
 
 -- In(a, q), or Out(a, q), with its n users, if it stands
-abbrev pub association : Bool → ℕ → ℕ → ℕ → List Association
+abbrev pub association : Bool → ℕ → ℕ → ℕ → List ShownAssociation
 association out a q n = onlyIf (ltb 0 n) (record { node = a; out = out; peer = q; spi = spiOf out a q; users = n })
 
 -- those of k nodes from a on, whose users are l: in, then out, each by peer
-unfoldable pub associations : ℕ → ℕ → List ℕ → List Association
+unfoldable pub associations : ℕ → ℕ → List ℕ → List ShownAssociation
 associations zero a l = []
 associations (suc k) a l =
     entriesFrom (association false a) 1 (take 32 l)
     ++ (entriesFrom (association true a) 1 (take 32 (drop 32 l)) ++ associations k (a + 1) (drop 64 l))
 
 -- the standing associations, as Show states
-unfoldable pub shown : List ℕ → List Association
+unfoldable pub shown : List ℕ → List ShownAssociation
 shown l = associations 32 1 l
 
 -- "one line for each standing association, no other; then (end)"

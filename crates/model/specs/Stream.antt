@@ -4,12 +4,13 @@ use Prim.Native.Nat.{ℕ, _≤_, _<_}
 use mathlib.Core.Path.{_≡_}
 use mathlib.Core.Bool.{Bool, true, cond}
 use mathlib.Core.List.{List, [], _∷_, _++_}
+use mathlib.Core.Option.{none}
 use lib.Dec.{ltb, eqb}
 use lib.ListN.{length, take, drop}
 use Rattle.calculus.specs.declared.state.State.{State}
 use Rattle.forms.specs.Line.{lineLength, lines}
 use Rattle.model.specs.Lists.{fold}
-use Rattle.model.specs.Calls.{Reply, reported, answered, linesOf}
+use Rattle.model.specs.Calls.{noLines, Reply, answered, linesOf}
 use Rattle.model.specs.Batch.{answeredText}
 use Rattle.model.specs.Texts.{afterLines, answersTo, NoNewline}
 
@@ -55,7 +56,7 @@ inputOf (lent out ∷ es) = inputOf es
 
 -- the reply at the end of the input: what is unread is a line, "an empty tail is no line"
 abbrev pub finished : State → List ℕ → ℕ → Reply
-finished s tail size = cond (eqb (length tail) 0) (reported s []) (answered s tail size)
+finished s tail size = cond (eqb (length tail) 0) (record { state = s; lines = noLines; refusal = none }) (answered s tail size)
 
 pub record Streams : Type 0 where
   -- whatever the pieces and the outputs, and whatever is to come: what is written are the first answers to the lines of the input,

@@ -9,7 +9,7 @@ use Rattle.forms.specs.Line.{lineLength, lines}
 use Rattle.model.specs.Calls.{Call, linesOf, after, replies}
 use Rattle.model.specs.Batch.{Batch, answeredText}
 
--- a call with this line, and with room for any answer
+-- a call with this line, and with room for any call's lines
 abbrev pub roomyCall : List ℕ → Call
 roomyCall line = record { line = line; size = 65536 }
 

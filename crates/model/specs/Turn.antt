@@ -3,14 +3,14 @@
 -- `sessions` and `effects`. Assumes nothing.
 use Prim.Native.Nat.{ℕ, _+_, _<_}
 use mathlib.Core.Path.{_≡_}
-use mathlib.Core.Bool.{Bool, true, false, cond, _||_}
-use mathlib.Core.List.{List, [], _∷_}
+use mathlib.Core.Bool.{Bool, true, false, _||_}
+use mathlib.Core.List.{List}
 use lib.ListN.{length, getD}
 use Rattle.calculus.specs.declared.answer.Answer.{Answer}
 use Rattle.calculus.specs.declared.answer.Answer.the-variants.{Ok, Made, MadeTwo, Lost, Denied, Opened, Delivered, Closed, No}
 use Rattle.calculus.specs.declared.network.Network.{Network}
 use Rattle.calculus.specs.declared.request.Report.{Report}
-use Rattle.calculus.specs.declared.request.Report.the-variants.{OneAnswer, AllAssociations, WholeNetwork}
+use Rattle.calculus.specs.declared.request.Report.the-variants.{NoReport, AllAssociations, WholeNetwork}
 use Rattle.calculus.specs.declared.request.Request as request
 use Rattle.calculus.specs.declared.request.Request.the-variants.{Node, Route, Open, Step, Send, Close, Show, Net}
 use Rattle.calculus.specs.declared.state.Moved.{Moved}
@@ -18,7 +18,6 @@ use Rattle.calculus.specs.declared.state.Part.{Part}
 use Rattle.calculus.specs.declared.state.State.{State}
 use Rattle.forms.specs.declared.read.Parsed.{Parsed}
 use Rattle.forms.specs.declared.read.Parsed.the-variants.{Asks, Refused}
-use Rattle.forms.specs.declared.read.Reading.{Reading}
 use Rattle.model.specs.NetworkText.{networkLines}
 use Rattle.model.specs.Row.{stands, raised, lowered}
 use Rattle.model.specs.State.{load, store}
@@ -122,22 +121,23 @@ networkOf n has needs (Refused r) = n
 
 -- the report that a request asks for, if it asks for one
 abbrev pub reportIn : request.Request → Report
-reportIn (Node a k) = OneAnswer
-reportIn (Route a b n) = OneAnswer
-reportIn (Open u c d) = OneAnswer
-reportIn (Step u k) = OneAnswer
-reportIn (Send u w tag) = OneAnswer
-reportIn (Close u) = OneAnswer
+reportIn (Node a k) = NoReport
+reportIn (Route a b n) = NoReport
+reportIn (Open u c d) = NoReport
+reportIn (Step u k) = NoReport
+reportIn (Send u w tag) = NoReport
+reportIn (Close u) = NoReport
 reportIn Show = AllAssociations
 reportIn Net = WholeNetwork
 
+-- that a line asks for
 abbrev pub reportOf : Parsed → Report
 reportOf (Asks q) = reportIn q
-reportOf (Refused r) = OneAnswer
+reportOf (Refused r) = NoReport
 
--- its lines, or that of the answer a
+-- the lines of a report; where there is none, that of the answer a
 abbrev pub linesAs : Network → List ℕ → Answer → Report → Lines
-linesAs n users a OneAnswer = answer a
+linesAs n users a NoReport = answer a
 linesAs n users a AllAssociations = report (shownLines users)
 linesAs n users a WholeNetwork = report (networkLines n)
 

@@ -1,8 +1,8 @@
 -- Texts put into the lent output, one behind the other. Assumes nothing.
-use mathlib.Core.Path.{_≡_, refl, ap, _∙_}
+use mathlib.Core.Path.{_≡_, ap, _∙_}
 use mathlib.Core.Bool.{Bool, true, false}
-use mathlib.Core.List.{List, [], _∷_, _++_, map, append-nil}
-use Prim.Native.Nat.{ℕ, suc, _+_, _*_, _≤_, _<_}
+use mathlib.Core.List.{List, [], _++_, map, append-nil}
+use Prim.Native.Nat.{ℕ, _+_, _*_, _≤_, _<_}
 use native.Mathlib.Nat.{mul-suc}
 use native.Mathlib.Numerals.{add-one}
 use native.Mathlib.Omega.{arith}
@@ -45,7 +45,8 @@ module _ {A : Type 0} (line : A → List ℕ) {b : Bool} (x : A) {most : ℕ} {l
   puts-skip e = rw e puts-none
 
 -- the lines of the first i entries of the table t are put, of each at most w bytes
-pub record Firsts {A B : Type 0} (line : B → List ℕ) (f : ℕ → A → List B) (k w : ℕ) (t : List A) (l : List ℕ) (at i : ℕ) (m : List ℕ) (p : ℕ) : Type 0 where
+pub record Firsts {A B : Type 0} (line : B → List ℕ) (f : ℕ → A → List B) (k w : ℕ) (t : List A) (l : List ℕ) (at i : ℕ) (m : List ℕ)
+    (p : ℕ) : Type 0 where
   pub inside : i ≤ length t
   pub puts : Puts (w * i) l at (joined (map line (entriesFrom f k (take i t)))) m p
 
@@ -64,5 +65,6 @@ module _ {A B : Type 0} {line : B → List ℕ} {f : ℕ → A → List B} {k w 
             (puts-append (x .puts) y (rw mul-suc (omega arith)));
       }
 
-  pub firsts-all : {i p : ℕ} {m : List ℕ} → length t ≤ i → Firsts line f k w t l at i m p → Puts (w * i) l at (joined (map line (entriesFrom f k t))) m p
+  pub firsts-all : {i p : ℕ} {m : List ℕ} → length t ≤ i → Firsts line f k w t l at i m p
+      → Puts (w * i) l at (joined (map line (entriesFrom f k t))) m p
   firsts-all {i} h x = rw (take-all i t h) at (x .puts)

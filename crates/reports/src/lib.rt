@@ -22,39 +22,41 @@ ghost use Rattle.reports.specs.Puts.{Puts};
 // No call's lines have more bytes.
 const ROOM: usize = 65536;
 
+// The report that a request asks for.
 fn report_in(q: Request) -> Report
     ensures { λ r. ⌜ r ≡ turns.reportIn q ⌝ }
 {
     match q {
-        Request::Node(_, _) => Report::OneAnswer,
+        Request::Node(_, _) => Report::NoReport,
         Request::Route {
             at: _,
             destination: _,
             next: _,
-        } => Report::OneAnswer,
+        } => Report::NoReport,
         Request::Open {
             session: _,
             client: _,
             server: _,
-        } => Report::OneAnswer,
-        Request::Step(_, _) => Report::OneAnswer,
-        Request::Send(_, _, _) => Report::OneAnswer,
-        Request::Close(_) => Report::OneAnswer,
+        } => Report::NoReport,
+        Request::Step(_, _) => Report::NoReport,
+        Request::Send(_, _, _) => Report::NoReport,
+        Request::Close(_) => Report::NoReport,
         Request::Show => Report::AllAssociations,
         Request::Net => Report::WholeNetwork,
     }
 }
 
+// The report that a line asks for.
 fn report_of(p: Parsed) -> Report
     ensures { λ r. ⌜ r ≡ turns.reportOf p ⌝ }
 {
     match p {
         Parsed::Asks(q) => report_in(q),
-        Parsed::Refused(_) => Report::OneAnswer,
+        Parsed::Refused(_) => Report::NoReport,
     }
 }
 
-// The caller has made sure of the room.
+// The lines of a report, or that of `answer`. The caller has made sure of the room.
 fn put_lines(
     out: &mut [u8],
     at: usize,
@@ -67,7 +69,7 @@ fn put_lines(
     ensures { λ r. ⌜ Puts 65536 (now (out .entry)) at (linesText (turns.linesAs n (now (users .entry)) answer report)) (now (out .exit)) r ⌝ }
 {
     match report {
-        Report::OneAnswer => write(out, at, answer),
+        Report::NoReport => write(out, at, answer),
         Report::AllAssociations => put_shown(out, at, users),
         Report::WholeNetwork => put_network(out, at, n),
     }
@@ -83,7 +85,8 @@ pub fn write_lines(
     p: Parsed,
     answer: Answer,
 ) -> usize
-    ensures { λ r. ⌜ Writes 65536 (now (out .entry)) at (linesText (turns.linesAs n (now (users .entry)) answer (turns.reportOf p))) (now (out .exit)) r ⌝ }
+    ensures { λ r.
+        ⌜ Writes 65536 (now (out .entry)) at (linesText (turns.linesAs n (now (users .entry)) answer (turns.reportOf p))) (now (out .exit)) r ⌝ }
 {
     if has_room(out.len(), at, ROOM) {
         let report = report_of(p);

@@ -2,7 +2,7 @@
 // line is written where 32 bytes are left.
 use answers::report::write_association;
 use answers::report::write_end;
-use calculus::answer::Association;
+use calculus::answer::ShownAssociation;
 use calculus::number::Spi;
 ghost use mathlib.Core.Path.{_≡_};
 ghost use mathlib.Core.List.{map};
@@ -32,7 +32,7 @@ fn put_peer(out: &mut [u8], at: usize, outward: bool, a: u8, q: u8, n: u16) -> u
 {
     if 0 < n {
         let spi = spi_of(outward, a, q);
-        let association = Association {
+        let association = ShownAssociation {
             node: a,
             out: outward,
             peer: q,
@@ -47,7 +47,8 @@ fn put_peer(out: &mut [u8], at: usize, outward: bool, a: u8, q: u8, n: u16) -> u
 // The lines of a's associations with the peers 1, 2, .. in this direction, whose users are lent.
 fn put_peers(out: &mut [u8], at: usize, outward: bool, a: u8, users: &[u16]) -> usize
     requires { ⌜ (a ≤ 32) × (length (now users) ≤ 32) × (at + 960 ≤ length (now out)) ⌝ }
-    ensures { λ r. ⌜ Puts 928 (now (out .entry)) at (joined (map associationLine (entriesFrom (spec.association outward a) 1 (now (users .entry))))) (now (out .exit)) r ⌝ }
+    ensures { λ r.
+        ⌜ Puts 928 (now (out .entry)) at (joined (map associationLine (entriesFrom (spec.association outward a) 1 (now (users .entry))))) (now (out .exit)) r ⌝ }
 {
     let mut next = at;
     let mut i: usize = 0;
@@ -62,7 +63,8 @@ fn put_peers(out: &mut [u8], at: usize, outward: bool, a: u8, users: &[u16]) -> 
 // The lines of the associations of the node whose place is i: in, then out, each by peer.
 fn put_node(out: &mut [u8], at: usize, i: usize, users: &[u16]) -> usize
     requires { ⌜ (i < 32) × (length (now users) ≡ 2048) × (at + 1920 ≤ length (now out)) ⌝ }
-    ensures { λ r. ⌜ Puts 1856 (now (out .entry)) at (joined (map associationLine (spec.associations 1 (i + 1) (drop (64 * i) (now (users .entry)))))) (now (out .exit)) r ⌝ }
+    ensures { λ r.
+        ⌜ Puts 1856 (now (out .entry)) at (joined (map associationLine (spec.associations 1 (i + 1) (drop (64 * i) (now (users .entry)))))) (now (out .exit)) r ⌝ }
 {
     let a = i as u8 + 1;
     let from = 64 * i;
@@ -73,7 +75,8 @@ fn put_node(out: &mut [u8], at: usize, i: usize, users: &[u16]) -> usize
 // The lines of all nodes' associations.
 fn put_nodes(out: &mut [u8], at: usize, users: &[u16]) -> usize
     requires { ⌜ (at + 65536 ≤ length (now out)) × (length (now users) ≡ 2048) ⌝ }
-    ensures { λ r. ⌜ Puts 59392 (now (out .entry)) at (joined (map associationLine (spec.associations 32 1 (now (users .entry))))) (now (out .exit)) r ⌝ }
+    ensures { λ r.
+        ⌜ Puts 59392 (now (out .entry)) at (joined (map associationLine (spec.associations 32 1 (now (users .entry))))) (now (out .exit)) r ⌝ }
 {
     let mut next = at;
     let mut i: usize = 0;

@@ -1,10 +1,10 @@
 -- The loop over the lines of a text: the pieces that the code has hold the state that the calls so far leave. Assumes nothing.
-use mathlib.Core.Path.{_≡_, refl, sym, ap, _∙_}
+use mathlib.Core.Path.{_≡_, refl, _∙_}
 use mathlib.Core.Bool.{Bool, true, false, cond, _||_}
 use mathlib.Core.List.{List, append-assoc}
-use Prim.Native.Nat.{ℕ, zero, suc, _+_, _-_, _≤_, _<_}
+use Prim.Native.Nat.{ℕ, zero, suc, _+_, _-_, _≤_}
 use native.Mathlib.Omega.{arith}
-use borrow.Author.Tests.{ltb-false, le-ltb}
+use borrow.Author.Tests.{ltb-false}
 use lib.Dec.{ltb}
 use lib.ListN.{length, getD, set, take, drop, length-drop}
 use lib.Seq.{sets-eq, drop-drop}
@@ -12,16 +12,15 @@ use Rattle.calculus.specs.declared.network.Network.{Network}
 use Rattle.calculus.specs.declared.state.Moved.{Moved}
 use Rattle.calculus.specs.declared.state.Part.{Part}
 use Rattle.calculus.specs.declared.state.State.{State}
-use Rattle.calculus.proofs.Tests.{Way, is, isnt, way, clash, within-bounds}
-use Rattle.forms.specs.declared.line.Line.{Line}
+use Rattle.calculus.proofs.Tests.{is, clash, within-bounds}
 use Rattle.forms.specs.declared.line.Line.the-variants.{Found, End}
 use Rattle.forms.specs.declared.read.Reading.{Reading}
 use Rattle.forms.specs.Line.{nextLine}
 use Rattle.forms.specs.Read.{read}
 use Rattle.forms.specs.Request.{asked}
 use Rattle.forms.proofs.Splits.{Inside, line-inside}
-use Rattle.model.specs.Batch.{Batch, isOver, isOverAt, isLast, nextCall, oneMore, answeredLines, answeredText}
-use Rattle.model.specs.Calls.{Reply, answered, repliedTo, linesText, linesOf, outputAfter}
+use Rattle.model.specs.Batch.{Batch, isOver, isOverAt, nextCall, oneMore, answeredLines, answeredText}
+use Rattle.model.specs.Calls.{answered, repliedTo, linesText, linesOf}
 use Rattle.model.specs.Turn.{sessionOf, turnOf, usersOf, isOk, networkOf, reportOf, linesAs, Parts, Held}
 use Rattle.model.proofs.Batch.{lines-over, lines-more}
 use Rattle.model.proofs.Parts.{Sized, Whole, Numbered}

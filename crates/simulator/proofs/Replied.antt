@@ -43,7 +43,8 @@ module _ (s : State) (line : List ℕ) (r : Reading) (er : r ≡ asked (read lin
   unfolding answered
   answered-turn size h = rw (le-ltb size 65536 h, ← er, em, el, eu) (turn-whole s r)
 
-  pub replied : {out left : List ℕ} → 65536 ≤ length out → {written : ℕ} → Writes 65536 out 0 (linesText (linesAs (s .network) users (m .answer) (reportOf (r .parsed)))) left written
+  pub replied : {out left : List ℕ} → 65536 ≤ length out → {written : ℕ}
+      → Writes 65536 out 0 (linesText (linesAs (s .network) users (m .answer) (reportOf (r .parsed)))) left written
       → (next : State) → next ≡ store s u (m .part) → (opened : Bool) → opened ≡ (m .opens || s .opened)
       → (n : Network) → n ≡ cond (isOk (m .answer)) (networkOf (s .network) (r .has) (r .needs) (r .parsed)) (s .network)
       → (status : Status) → status ≡ statusOf (refusalIn (m .answer))

@@ -34,12 +34,13 @@ pub fn check(name: &str, calls: &[Vec<u8>]) -> Outcome<()> {
     Ok(())
 }
 
-/// The same on the random lists of the tests, with every loss and refusal but that of a line that is no form.
+/// The same on the random lists of the tests, with every loss and refusal but that of a line that is no form. The model
+/// is document 01's, so it has no `(net)`.
 pub fn check_random_lists() -> Outcome<()> {
     let mut count = 0;
     for index in 0..RANDOM_LISTS {
         let mut calls = list(SEED, index, RANDOM_LENGTH, LateNetwork::Yes).calls;
-        calls.retain(|call| Form::read(call).is_some());
+        calls.retain(|call| Form::read(call).is_some_and(|form| form != Form::Net));
         compare(&calls)?;
         count += calls.len();
     }

@@ -7,12 +7,12 @@ use lib.ListN.{length}
 use Rattle.calculus.proofs.Tests.{join}
 use Rattle.forms.specs.Answer.{associationLine}
 use Rattle.answers.proofs.Writes.{writes-none, writes-put}
-use Rattle.answers.proofs.Widths.{association-width}
+use Rattle.answers.proofs.Widths.{association-short}
 use Rattle.answers.proofs.report.write_association.Statement.{statement}
 use Rattle.answers.proofs.report.write_association.Tie as tie
 
 few : (c : tie.Start) → length (associationLine (c .args .x)) ≤ 32
-few c = association-width _ (search needs) (search needs) (search needs) (search needs)
+few c = association-short _ (search needs) (search needs) (search needs) (search needs)
 
 -- there is room
 room : (c : tie.Then1) → let x = c .before .before .before .args in x .at + 32 ≤ length (x .out .now)

@@ -5,16 +5,16 @@ use borrow.Author.Needs.{needs}
 use borrow.Author.Tests.{leb-true}
 use lib.ListN.{length}
 use Rattle.calculus.proofs.Tests.{join}
-use Rattle.forms.specs.Text.{node, formLine}
-use Rattle.forms.specs.Request.{credentialsFrom}
+use Rattle.forms.specs.Text.{formLine}
+use Rattle.forms.specs.Request.{nodeOf}
 use Rattle.answers.proofs.Writes.{writes-none, writes-put}
-use Rattle.answers.proofs.Widths.{node-line-width}
+use Rattle.answers.proofs.Widths.{node-short}
 use Rattle.answers.proofs.report.write_node.Statement.{statement}
 use Rattle.answers.proofs.report.write_node.Tie as tie
 
 few : (c : tie.Start)
-    → let x = c .args in length (formLine (node (x .node) (x .kind) (credentialsFrom 0 (x .has)) (credentialsFrom 0 (x .needs)))) ≤ 400
-few c = node-line-width _ _ _ _ (search needs) (search needs) (search needs)
+    → let x = c .args in length (formLine (nodeOf (x .node) (x .kind) (x .has) (x .needs))) ≤ 400
+few c = node-short _ _ _ _ (search needs) (search needs) (search needs)
 
 -- there is room
 room : (c : tie.Then1) → let x = c .before .before .before .args in x .at + 400 ≤ length (x .out .now)

@@ -7,12 +7,12 @@ use lib.ListN.{length}
 use Rattle.calculus.proofs.Tests.{join}
 use Rattle.forms.specs.Text.{route, text, formLine}
 use Rattle.answers.proofs.Writes.{writes-none, writes-put}
-use Rattle.answers.proofs.Widths.{route-line-width}
+use Rattle.answers.proofs.Widths.{route-short}
 use Rattle.answers.proofs.report.write_route.Statement.{statement}
 use Rattle.answers.proofs.report.write_route.Tie as tie
 
 few : (c : tie.Start) → let x = c .args in length (formLine (route (x .«from») (x .destination) (x .hop))) ≤ 32
-few c = route-line-width _ _ _ (search needs) (search needs) (search needs)
+few c = route-short _ _ _ (search needs) (search needs) (search needs)
 
 -- there is room
 room : (c : tie.Then1) → let x = c .before .before .before .args in x .at + 32 ≤ length (x .out .now)

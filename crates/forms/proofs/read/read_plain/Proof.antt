@@ -83,7 +83,8 @@ returns-6 : tie.Need-returns-6
 unfolding plainForm
 returns-6 c =
     let c₃ = c .before .before .before in
-    pick-bare showWith Show (λ ns. refl) 5 (not-close (c₃ .before .before)) _ refl (c₃ .starts6 .ensures) (c .before .before .if6 .taken) (c .bare-at .ensures)
+    pick-bare showWith Show (λ ns. refl) 5 (not-close (c₃ .before .before)) _ refl (c₃ .starts6 .ensures) (c .before .before .if6 .taken)
+    (c .bare-at .ensures)
 
 abbrev not-show : tie.Else6 → Left
 unfolding plainForm
@@ -96,7 +97,8 @@ returns-7 : tie.Need-returns-7
 unfolding plainForm
 returns-7 c =
     let c₃ = c .before .before .before in
-    pick-bare netWith Net (λ ns. refl) 4 (not-show (c₃ .before .before)) _ refl (c₃ .starts7 .ensures) (c .before .before .if7 .taken) (c .bare-at2 .ensures)
+    pick-bare netWith Net (λ ns. refl) 4 (not-show (c₃ .before .before)) _ refl (c₃ .starts7 .ensures) (c .before .before .if7 .taken)
+    (c .bare-at2 .ensures)
 
 abbrev not-net : tie.Else7 → Left
 unfolding plainForm

@@ -1,5 +1,4 @@
 -- `network::put_route` meets its contract: the line is written where there is a route. Assumes nothing.
-use native.Mathlib.Omega.{arith}
 use borrow.Author.Needs.{needs}
 use borrow.Author.Tests.{lt-ltb, le-ltb}
 use Rattle.forms.specs.Text.{formLine}
@@ -17,4 +16,6 @@ returns-2 c = puts-skip formLine _ (le-ltb _ _ (c .if1 .left))
 
 pub put-route-spec : {M : Type 1} → statement M
 put-route-spec =
-    tie.close (tie.spec (λ c. search needs) (λ c. search needs) (λ c. search needs) (λ c. search needs) (λ c κs. search needs) (λ c. search needs) returns returns-2)
+    tie.close
+    (tie.spec (λ c. search needs) (λ c. search needs) (λ c. search needs) (λ c. search needs) (λ c κs. search needs) (λ c. search needs)
+    returns returns-2)

@@ -23,7 +23,8 @@ put-route-requires c κs =
     (search needs, omega (arith, x .puts .put .place, x .puts .few, puts-size (x .puts)))
 
 loop-again : tie.Need-loop-again Inv-loop μ-loop
-loop-again c = firsts-more _ _ (omega arith) (search needs) (c .before .before .before .before .before .loop .inv) (c .before .before .put-route .ensures)
+loop-again c =
+    firsts-more _ _ (omega arith) (search needs) (c .before .before .before .before .before .loop .inv) (c .before .before .put-route .ensures)
 
 same-length : tie.Need-same-length Inv-loop μ-loop
 same-length c = puts-size (c .before .loop .inv .puts)

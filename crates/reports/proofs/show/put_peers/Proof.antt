@@ -1,5 +1,5 @@
 -- `show::put_peers` meets its contract. The loop's invariant: the lines of the first i peers are put. Assumes nothing.
-use Prim.Native.Nat.{_-_, _*_, _≤_}
+use Prim.Native.Nat.{_-_}
 use native.Mathlib.Omega.{arith}
 use borrow.Author.Needs.{needs}
 use lib.ListN.{length}
@@ -19,7 +19,9 @@ loop-holds : tie.Need-loop-holds Inv-loop μ-loop
 loop-holds c = firsts-none
 
 put-peer-requires : tie.Need-put-peer-requires Inv-loop μ-loop
-put-peer-requires c κs = let x = c .before .before .before .loop .inv in omega (arith, x .inside, x .puts .put .place, x .puts .few, puts-size (x .puts))
+put-peer-requires c κs =
+    let x = c .before .before .before .loop .inv in
+    omega (arith, x .inside, x .puts .put .place, x .puts .few, puts-size (x .puts))
 
 loop-again : tie.Need-loop-again Inv-loop μ-loop
 loop-again c =
