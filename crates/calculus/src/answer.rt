@@ -1,4 +1,4 @@
-// What a call answers: its answer with its refusal or loss, or the lines of show's report.
+// What a call answers, its refusals and its losses; and an association as show reports it.
 use crate::number::ItemNumber;
 use crate::number::Spi;
 ghost use mathlib.Core.Path.{_≡_};

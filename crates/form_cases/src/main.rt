@@ -159,20 +159,11 @@ fn put_answers() {
     put_answer(Answer::Opened);
     put_answer(Answer::Delivered(4294967295));
     put_answer(Answer::Closed);
-    put_association(association());
-    put_association(ShownAssociation {
-        node: 32,
-        out: true,
-        peer: 31,
-        spi: Spi::between(31, 32),
-        users: 65535,
-    });
-    put_end();
     put_losses();
     put_refusals();
 }
 
-// ---- lines of reports, each as an answer is put
+// ---- lines of reports, each put as an answer is
 
 fn association() -> ShownAssociation {
     ShownAssociation {
@@ -234,6 +225,15 @@ fn put_nothing() {
 }
 
 fn put_reports() {
+    put_association(association());
+    put_association(ShownAssociation {
+        node: 32,
+        out: true,
+        peer: 31,
+        spi: Spi::between(31, 32),
+        users: 65535,
+    });
+    put_end();
     put_route();
     put_gateway(&mut [b'.'; 404]);
     put_nothing();

@@ -181,7 +181,7 @@ pub record Holds (s : State) (t : Part) : Type 0 where
   pub users : (out : Bool) (a q : ℕ) → areNodes a q ≡ true → usersOf (s .users) out a q ≡ rowsNaming out a q s (upFrom 0 8)
   pub fewUsers : (out : Bool) (a q : ℕ) → usersOf (s .users) out a q ≤ 256
 
--- of the network n
+-- of the network n; it follows from `Consistent` of GivenBack, and is what the rules rest on
 pub record HoldsNetwork (n : Network) : Type 0 where
   -- a route leads to a node that was given
   pub routes : (a b next : ℕ) → nextHop n a b ≡ Found next → given n next ≡ true

@@ -15,14 +15,13 @@ use Rattle.model.specs.Requests.{association, shown, shownLines}
 abbrev pub isFor : Bool → ℕ → ℕ → ShownAssociation → Bool
 isFor out a q x = sameWay (x .out) out && (eqb (x .node) a && eqb (x .peer) q)
 
--- those of l
+-- the ones of l that are
 abbrev pub allFor : Bool → ℕ → ℕ → List ShownAssociation → List ShownAssociation
 allFor out a q [] = []
 allFor out a q (x ∷ l) = cond (isFor out a q x) (x ∷ allFor out a q l) (allFor out a q l)
 
 pub record Show : Type 0 where
-  -- of every table of users, and of every two numbers: it is there once if it stands, and else not
-  pub once : (l : List ℕ) (out : Bool) (a q : ℕ)
-      → allFor out a q (shown l) ≡ association out a q (usersOf l out a q)
+  -- of every table of users and of every two numbers: it is there once where it stands, and else not
+  pub once : (l : List ℕ) (out : Bool) (a q : ℕ) → allFor out a q (shown l) ≡ association out a q (usersOf l out a q)
   -- the lines fit into the lent output of 65,536 bytes
   pub fits : (l : List ℕ) → All (λ n. n ≤ 65535) l → length (joined (shownLines l)) ≤ 65536

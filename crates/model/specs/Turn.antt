@@ -130,7 +130,7 @@ reportIn (Close u) = NoReport
 reportIn Show = AllAssociations
 reportIn Net = WholeNetwork
 
--- that a line asks for
+-- the report that a line asks for
 abbrev pub reportOf : Parsed → Report
 reportOf (Asks q) = reportIn q
 reportOf (Refused r) = NoReport
