@@ -112,8 +112,7 @@ fn put_node(
     needs: [bool; 64],
 ) -> usize
     requires { ⌜ at + length (formLine (nodeOf node kind has needs)) ≤ length (now out) ⌝ }
-    ensures { λ r.
-        ⌜ Put (now (out .entry)) at (formLine (nodeOf node kind has needs)) (now (out .exit)) r ⌝ }
+    ensures { λ r. ⌜ Put (now (out .entry)) at (formLine (nodeOf node kind has needs)) (now (out .exit)) r ⌝ }
 {
     let p = put_numbered(out, at, b"(node ", node as u64);
     let q = put_kind(out, p, kind);
@@ -131,8 +130,7 @@ pub fn write_node(
     has: [bool; 64],
     needs: [bool; 64],
 ) -> usize
-    ensures { λ r.
-        ⌜ Writes 400 (now (out .entry)) at (formLine (nodeOf node kind has needs)) (now (out .exit)) r ⌝ }
+    ensures { λ r. ⌜ Writes 400 (now (out .entry)) at (formLine (nodeOf node kind has needs)) (now (out .exit)) r ⌝ }
 {
     if has_room(out.len(), at, LONGEST_NODE) {
         return put_node(out, at, node, kind, has, needs);

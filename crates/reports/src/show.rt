@@ -61,7 +61,7 @@ fn put_peers(out: &mut [u8], at: usize, outward: bool, a: u8, users: &[u16]) -> 
 }
 
 // The lines of the associations of the node whose place is i: in, then out, each by peer.
-fn put_node(out: &mut [u8], at: usize, i: usize, users: &[u16]) -> usize
+fn put_both_ways(out: &mut [u8], at: usize, i: usize, users: &[u16]) -> usize
     requires { ⌜ (i < 32) × (length (now users) ≡ 2048) × (at + 1920 ≤ length (now out)) ⌝ }
     ensures { λ r.
         ⌜ Puts 1856 (now (out .entry)) at (joined (map associationLine (spec.associations 1 (i + 1) (drop (64 * i) (now (users .entry)))))) (now (out .exit)) r ⌝ }
@@ -73,7 +73,7 @@ fn put_node(out: &mut [u8], at: usize, i: usize, users: &[u16]) -> usize
 }
 
 // The lines of all nodes' associations.
-fn put_nodes(out: &mut [u8], at: usize, users: &[u16]) -> usize
+fn put_associations(out: &mut [u8], at: usize, users: &[u16]) -> usize
     requires { ⌜ (at + 65536 ≤ length (now out)) × (length (now users) ≡ 2048) ⌝ }
     ensures { λ r.
         ⌜ Puts 59392 (now (out .entry)) at (joined (map associationLine (spec.associations 32 1 (now (users .entry))))) (now (out .exit)) r ⌝ }
@@ -81,7 +81,7 @@ fn put_nodes(out: &mut [u8], at: usize, users: &[u16]) -> usize
     let mut next = at;
     let mut i: usize = 0;
     while i < 32 {
-        next = put_node(out, next, i, users);
+        next = put_both_ways(out, next, i, users);
         i += 1;
     }
     next
@@ -92,6 +92,6 @@ pub fn put_shown(out: &mut [u8], at: usize, users: &[u16; 2048]) -> usize
     requires { ⌜ at + 65536 ≤ length (now out) ⌝ }
     ensures { λ r. ⌜ Puts 65536 (now (out .entry)) at (joined (spec.shownLines (now (users .entry)))) (now (out .exit)) r ⌝ }
 {
-    let next = put_nodes(out, at, users);
+    let next = put_associations(out, at, users);
     write_end(out, next)
 }

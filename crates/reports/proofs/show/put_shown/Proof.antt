@@ -13,7 +13,7 @@ returns : tie.Need-returns
 unfolding shown
 returns c =
     let c₆ = c .before .before .before .before .before .before in
-    let x = c₆ .put-nodes .ensures in
+    let x = c₆ .put-associations .ensures in
     rw (joined-append (map associationLine (associations 32 1 (c₆ .before .before .before .before .args .users .now))) (endLine ∷ []), append-nil)
     (puts-append x (puts-written (omega (arith, x .few, x .put .place, puts-size x)) (c .before .before .write-end .ensures)) (omega arith))
 
