@@ -1,4 +1,4 @@
--- The forms of a network's text are read again. Assumes nothing.
+-- The forms of a network's text are read again, and so are those that ask for a report. Assumes nothing.
 use mathlib.Core.Path.{_≡_, refl}
 use mathlib.Core.Bool.{Bool}
 use mathlib.Core.List.{List}
@@ -7,7 +7,7 @@ use Prim.Native.Nat.{ℕ, _≤_}
 use native.Mathlib.Omega.{arith}
 use lib.ListN.{length}
 use Rattle.calculus.specs.declared.network.Kind.{Kind}
-use Rattle.forms.specs.Text.{route, net, listText, text}
+use Rattle.forms.specs.Text.{route, show, net, listText, text}
 use Rattle.forms.specs.Request.{credentialsFrom, nodeOf}
 use Rattle.forms.specs.Read.{read}
 use Rattle.forms.proofs.Decimal.{width-most}
@@ -41,9 +41,10 @@ route-read a b next h g j =
     reads-exactly .exact (text (route a b next)) (route a b next) .1
     (record { written = refl; short = omega arith; digits = (omega arith, (omega arith, (omega arith, tt))) })
 
-net-short : length (text net) ≤ 400
-unfolding text listText
-net-short = omega arith
-
 pub net-read : read (text net) ≡ some net
-net-read = reads-exactly .exact (text net) net .1 (record { written = refl; short = net-short; digits = tt })
+unfolding text listText
+net-read = reads-exactly .exact (text net) net .1 (record { written = refl; short = omega arith; digits = tt })
+
+pub show-read : read (text show) ≡ some show
+unfolding text listText
+show-read = reads-exactly .exact (text show) show .1 (record { written = refl; short = omega arith; digits = tt })

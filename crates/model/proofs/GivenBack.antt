@@ -2,7 +2,6 @@
 use mathlib.Core.Path.{_≡_, refl, sym, ap, _∙_}
 use mathlib.Core.Bool.{cond}
 use mathlib.Core.List.{List, map, map-map}
-use mathlib.Core.Option.{none}
 use Prim.Native.Nat.{ℕ, _+_, _/_, _%_, _≤_, _<_}
 use native.Mathlib.Omega.{arith}
 use lib.Dec.{ltb}
@@ -23,7 +22,7 @@ use Rattle.forms.proofs.NetworkForms.{net-read}
 use Rattle.model.specs.Lists.{All}
 use Rattle.model.specs.NetworkText.{nodeForm, routeForm, networkForms, networkLines, networkText}
 use Rattle.model.specs.State.{fresh}
-use Rattle.model.specs.Calls.{report, short, answered, requested, replies}
+use Rattle.model.specs.Calls.{reported, short, answered, requested, replies}
 use Rattle.model.specs.Texts.{roomyCall, afterLines}
 use Rattle.model.specs.GivenBack.{IsPlace, Consistent, freshWith, AnsweredOk, GivenBack}
 use Rattle.model.proofs.Lists.{all-of-getD}
@@ -92,7 +91,7 @@ module _ (n : Network) (h : Consistent n) where
 
 net-written : (s : State) (size : ℕ)
     → answered s (text net) size
-    ≡ cond (ltb size 65536) (short s) (record { state = s; lines = report (networkLines (s .network)); refusal = none })
+    ≡ cond (ltb size 65536) (short s) (reported s (networkLines (s .network)))
 unfolding answered requested
 net-written s size = rw net-read
 

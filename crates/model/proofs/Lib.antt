@@ -2,6 +2,7 @@
 pub mod Checks
 pub mod Lists
 pub mod Tables
+pub mod Rising
 pub mod Parts
 pub mod Users
 pub mod Weights

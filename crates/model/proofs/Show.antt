@@ -1,159 +1,221 @@
--- Show: each standing association once, no other. Assumes nothing.
-use mathlib.Core.Path.{_≡_, refl, sym, ap, _∙_}
-use mathlib.Core.Bool.{Bool, true, false, cond, _&&_, and-false}
-use mathlib.Core.List.{List, [], _∷_, _++_, append-nil}
-use Prim.Native.Nat.{ℕ, zero, suc, _+_, _*_, _-_, _≤_, _<_}
-use native.Mathlib.Nat.{zero-add}
+-- Show: each standing association once, no other, in order; and only one list is so. Assumes nothing.
+use mathlib.Core.Path.{_≡_, refl, sym, ap, subst, _∙_}
+use mathlib.Core.Bool.{Bool, true, false, cond, _&&_}
+use mathlib.Core.List.{List, [], _∷_, _++_}
+use Prim.Native.Nat.{ℕ, zero, suc, _+_, _*_, _-_, _/_, _%_, _≤_, _<_}
 use native.Mathlib.Omega.{arith}
-use lib.Dec.{ltb, eqb}
-use lib.ListN.{length, getD, take, drop}
-use lib.Seq.{getD-take, getD-drop}
-use Rattle.calculus.proofs.Tests.{both, never}
+use lib.Dec.{leb, ltb, eqb}
+use lib.ListN.{length, getD, take, drop, length-take}
+use lib.Seq.{getD-take}
+use borrow.Author.Tests.{leb-true, leb-false}
+use Rattle.calculus.proofs.Tests.{either, never, clash, bounds-within}
 use Rattle.calculus.proofs.Table.{perhaps}
 use Rattle.calculus.specs.Table.{entriesFrom, onlyIf}
 use Rattle.calculus.specs.declared.answer.ShownAssociation.{ShownAssociation}
+use Rattle.calculus.specs.declared.state.State.{State}
+use Rattle.forms.specs.Text as form
+use Rattle.forms.specs.Text.{text}
+use Rattle.forms.proofs.NetworkForms.{show-read}
+use Rattle.model.specs.Lists.{All, before, Rising}
 use Rattle.model.specs.Row.{sameWay, usersPlace, areNodes, usersOf}
-use Rattle.model.specs.Requests.{association, associations, shown}
-use Rattle.model.specs.Show.{isFor, allFor, Show}
-use borrow.Author.Tests.{eqb-true, le-leb, ne-eqb}
-use Rattle.model.proofs.ShowLines.{ins, outs, shownWith, peers-all, nodes-all, shown-fits}
-use Rattle.model.specs.Lists.{All}
-use Rattle.model.proofs.Lists.{all-of}
-use Rattle.model.proofs.Users.{same-itself, node-bounds}
+use Rattle.model.specs.Requests.{association, associationAt, shown, shownLines}
+use Rattle.model.specs.Calls.{reported, short, answered, requested}
+use Rattle.model.specs.Show.{isFor, allFor, OneForEach, associationKey, Show}
+use Rattle.model.proofs.Lists.{all-of, all-map}
+use Rattle.model.proofs.Tables.{only-all, entries-all}
+use Rattle.model.proofs.Users.{same-itself, same-parts, are-nodes, one-place, place-below}
+use Rattle.model.proofs.ShowLines.{shownWith, shown-fits}
+use Rattle.model.proofs.Rising.{Before, before-cons, one-way, Compared, earlier, later, same, compared, rising-entries}
+
+-- ---- the places of the users' table
+
+-- the association at place p: way, node, peer
+abbrev wayAt : ℕ → Bool
+wayAt p = leb 32 (p % 64)
+
+abbrev nodeAt : ℕ → ℕ
+nodeAt p = p / 64 + 1
+
+abbrev peerAt : ℕ → ℕ
+peerAt p = p % 32 + 1
+
+place-of : (p : ℕ) → usersPlace (wayAt p) (nodeAt p) (peerAt p) ≡ p
+place-of p =
+    either (λ (n : ℕ). 64 * (nodeAt p - 1) + n + (peerAt p - 1) ≡ p) (wayAt p)
+    (λ e. omega (arith, leb-true 32 (p % 64) e)) (λ e. omega (arith, leb-false 32 (p % 64) e))
+
+nodes-at : (p : ℕ) → p < 2048 → areNodes (nodeAt p) (peerAt p) ≡ true
+nodes-at p h =
+    are-nodes (nodeAt p) (peerAt p) (bounds-within 1 32 (nodeAt p) (omega arith) (omega arith)) (bounds-within 1 32 (peerAt p) (omega arith) (omega arith))
+
+-- ---- in order
+
+way-number : (p : ℕ) → cond (wayAt p) 1 0 ≡ p % 64 / 32
+way-number p =
+    either (λ (n : ℕ). n ≡ p % 64 / 32) (wayAt p)
+    (λ e. omega (arith, leb-true 32 (p % 64) e)) (λ e. omega (arith, leb-false 32 (p % 64) e))
+
+abbrev shownAt : ℕ → ℕ → ShownAssociation
+shownAt p n = shownWith (wayAt p) (nodeAt p) (peerAt p) n
+
+places-rise : (i j x y : ℕ) → i < j → Before associationKey (shownAt i x) (shownAt j y)
+places-rise i j x y h =
+    let v = way-number i in
+    let w = way-number j in
+    before-cons (nodeAt i) (nodeAt j) (cond (wayAt i) 1 0 ∷ peerAt i ∷ []) (cond (wayAt j) 1 0 ∷ peerAt j ∷ []) (omega arith)
+    (λ e. before-cons (cond (wayAt i) 1 0) (cond (wayAt j) 1 0) (peerAt i ∷ []) (peerAt j ∷ []) (omega arith)
+    (λ f. before-cons (peerAt i) (peerAt j) [] [] (omega arith) (λ g. absurd (omega arith))))
+
+shown-ordered : (l : List ℕ) → Rising associationKey (shown l)
+unfolding shown
+shown-ordered l = rising-entries associationKey (ltb 0) shownAt places-rise 0 (take 2048 l)
 
 -- ---- one association
 
-for-append : (out : Bool) (a q : ℕ) (l m : List ShownAssociation) → allFor out a q (l ++ m) ≡ allFor out a q l ++ allFor out a q m
-for-append out a q [] m = refl
-for-append out a q (x ∷ l) m = go (isFor out a q x) (for-append out a q l m)
-  where
-    go : (b : Bool) → allFor out a q (l ++ m) ≡ allFor out a q l ++ allFor out a q m
-        → cond b (x ∷ allFor out a q (l ++ m)) (allFor out a q (l ++ m))
-        ≡ cond b (x ∷ allFor out a q l) (allFor out a q l) ++ allFor out a q m
-    go true h = ap (λ (y : List ShownAssociation). x ∷ y) h
-    go false h = h
-
 module _ (out : Bool) (a q : ℕ) where
-  abbrev Apart : List ShownAssociation → Type 0
-  Apart l = allFor out a q l ≡ []
+  -- the one at place p is it
+  abbrev isAt : ℕ → Bool
+  isAt p = sameWay (wayAt p) out && (eqb (nodeAt p) a && eqb (peerAt p) q)
 
-  node-lines : (k b : ℕ) (l : List ℕ)
-      → allFor out a q (associations (suc k) b l)
-      ≡ allFor out a q (ins b l) ++ (allFor out a q (outs b l) ++ allFor out a q (associations k (b + 1) (drop 64 l)))
-  unfolding associations
-  node-lines k b l =
-      for-append out a q (ins b l) (outs b l ++ associations k (b + 1) (drop 64 l))
-      ∙ ap (λ (x : List ShownAssociation). allFor out a q (ins b l) ++ x) (for-append out a q (outs b l) (associations k (b + 1) (drop 64 l)))
-
-  -- ---- the lines of others
+  at-parts : (p : ℕ) → isAt p ≡ true → (wayAt p ≡ out) × (nodeAt p ≡ a) × (peerAt p ≡ q)
+  at-parts p e = same-parts (wayAt p) out (nodeAt p) a (peerAt p) q e
 
   abbrev Other : ShownAssociation → Type 0
   Other x = isFor out a q x ≡ false
 
-  all-apart : (l : List ShownAssociation) → All Other l → Apart l
-  all-apart [] h = refl
-  all-apart (x ∷ l) h = rw (h .0) (all-apart l (h .1))
+  all-other : (m : List ShownAssociation) → All Other m → allFor out a q m ≡ []
+  all-other [] h = refl
+  all-other (x ∷ m) h = rw (h .0) (all-other m (h .1))
 
-  peers-apart : (o : Bool) (b p : ℕ) (l : List ℕ) → ((r : ℕ) → p ≤ r → r < p + length l → (sameWay o out && (eqb b a && eqb r q)) ≡ false)
-      → Apart (entriesFrom (association o b) p l)
-  peers-apart o b p l h =
-      all-apart (entriesFrom (association o b) p l) (peers-all Other (λ n. Unit) o b p l (all-of _ (λ n. tt) l) (λ r n i j u. h r i j))
+  places-other : (k : ℕ) (l : List ℕ) → ((p : ℕ) → k ≤ p → p < k + length l → isAt p ≡ false) → allFor out a q (entriesFrom associationAt k l) ≡ []
+  places-other k l h =
+      all-other (entriesFrom associationAt k l)
+      (entries-all Other (λ n. Unit) associationAt k l (all-of _ (λ n. tt) l) (λ p n i j u. only-all Other (ltb 0 n) (λ e. h p i j)))
 
-  node-apart : (o : Bool) (b p : ℕ) (l : List ℕ) → (b ≡ a → ⊥) → Apart (entriesFrom (association o b) p l)
-  node-apart o b p l ne = peers-apart o b p l (λ r i j. rw (ne-eqb b a ne, and-false))
-
-  nodes-apart : (k b : ℕ) (l : List ℕ) → ((x p : ℕ) → b ≤ x → x < b + k → 1 ≤ p → p ≤ 32 → (eqb x a && eqb p q) ≡ false) → Apart (associations k b l)
-  nodes-apart k b l h =
-      all-apart (associations k b l)
-      (nodes-all Other (λ n. Unit) k b l (all-of _ (λ n. tt) l)
-      (λ o x p n i j v w u. rw (h x p i j v w) (and-false (sameWay o out))))
-
-  -- ---- its own line
-
-  -- a line of a peer that is not q
-  peer-apart : (r : ℕ) → (r ≡ q → ⊥) → (sameWay out out && (eqb a a && eqb r q)) ≡ false
-  peer-apart r ne = rw (ne-eqb r q ne, and-false, and-false)
-
-  head-own : (n : ℕ) (rest : List ShownAssociation) → Apart rest
-      → allFor out a q (onlyIf (ltb 0 n) (shownWith out a q n) ++ rest) ≡ association out a q n
-  head-own n rest h = go (ltb 0 n)
+  -- its own line, and no line of it behind
+  own-first : (n : ℕ) (rest : List ShownAssociation) → allFor out a q rest ≡ [] → allFor out a q (association out a q n ++ rest) ≡ association out a q n
+  own-first n rest h = go (ltb 0 n)
     where
       go : (b : Bool) → allFor out a q (onlyIf b (shownWith out a q n) ++ rest) ≡ onlyIf b (shownWith out a q n)
-      go true = rw (same-itself out a q) (ap (λ (x : List ShownAssociation). shownWith out a q n ∷ x) h)
+      go true = rw (same-itself out a q) (ap (λ (m : List ShownAssociation). shownWith out a q n ∷ m) h)
       go false = h
 
-  head-other : (p n : ℕ) (rest : List ShownAssociation) → (p ≡ q → ⊥)
-      → allFor out a q (onlyIf (ltb 0 n) (shownWith out a p n) ++ rest) ≡ allFor out a q rest
-  head-other p n rest ne =
-      perhaps (λ (x : List ShownAssociation). allFor out a q x ≡ allFor out a q rest) (ltb 0 n) (λ e. rw (peer-apart p ne)) (λ e. refl)
+  other-first : (p n : ℕ) (rest : List ShownAssociation) → isAt p ≡ false → allFor out a q (associationAt p n ++ rest) ≡ allFor out a q rest
+  other-first p n rest e =
+      perhaps (λ (m : List ShownAssociation). allFor out a q m ≡ allFor out a q rest) (ltb 0 n) (λ f. rw e) (λ f. refl)
 
-  peers-own : (j p : ℕ) (l : List ℕ) → p + j ≡ q → allFor out a q (entriesFrom (association out a) p l) ≡ association out a q (getD l j 0)
-  unfolding entriesFrom
-  peers-own j p [] e = refl
-  peers-own zero p (n ∷ l) e =
-      let w : p ≡ q = omega arith in
-      rw w (head-own n (entriesFrom (association out a) (q + 1) l) (peers-apart out a (q + 1) l (λ r i j. peer-apart r (λ z. omega arith))))
-  peers-own (suc j) p (n ∷ l) e = head-other p n (entriesFrom (association out a) (p + 1) l) (λ z. omega arith) ∙ peers-own j (p + 1) l (omega arith)
-
-  module _ (hq : (1 ≤ q) × (q ≤ 32)) where
-    own-users : (l : List ℕ) → allFor out a q (entriesFrom (association out a) 1 (take 32 l)) ≡ association out a q (getD l (q - 1) 0)
-    own-users l =
-        peers-own (q - 1) 1 (take 32 l) (omega (arith, hq)) ∙ ap (association out a q) (getD-take 32 l (q - 1) 0 (omega (arith, hq)))
-
--- the place of the users of the node j after the first
-abbrev placeFrom : Bool → ℕ → ℕ → ℕ
-placeFrom out j q = 64 * j + cond out 32 0 + (q - 1)
-
--- the line among those of its own node
-node-own : (out : Bool) (a q : ℕ) → (1 ≤ q) × (q ≤ 32) → (l : List ℕ)
-    → allFor out a q (ins a l) ++ allFor out a q (outs a l) ≡ association out a q (getD l (placeFrom out 0 q) 0)
-node-own true a q h l =
-    rw (peers-apart true a q false a 1 (take 32 l) (λ r i j. refl))
-    (own-users true a q h (drop 32 l) ∙ ap (association true a q) (getD-drop 32 l (q - 1) 0))
-node-own false a q h l =
-    rw (peers-apart false a q true a 1 (take 32 (drop 32 l)) (λ r i j. refl), append-nil, zero-add (q - 1)) (own-users false a q h l)
+  -- of all places, `at` alone is its place
+  module _ (at : ℕ) (own : isAt at ≡ true) (others : (p : ℕ) → (p ≡ at → ⊥) → isAt p ≡ false) where
+    place-own : (j k : ℕ) (l : List ℕ) → k + j ≡ at → allFor out a q (entriesFrom associationAt k l) ≡ association out a q (getD l j 0)
+    unfolding entriesFrom
+    place-own j k [] e = refl
+    place-own zero k (n ∷ l) e =
+        let f : k ≡ at = omega arith in
+        let w = at-parts at own in
+        rw (f, w .0, w .1, w .2)
+        (own-first n (entriesFrom associationAt (at + 1) l) (places-other (at + 1) l (λ p i j. others p (λ z. omega arith))))
+    place-own (suc j) k (n ∷ l) e =
+        other-first k n (entriesFrom associationAt (k + 1) l) (others k (λ z. omega arith)) ∙ place-own j (k + 1) l (omega arith)
 
 not-so : (b : Bool) → (b ≡ true → ⊥) → b ≡ false
 not-so true h = absurd (h refl)
 not-so false h = refl
 
--- two nodes are not a and q, which are no two nodes
-not-both : (a q x p : ℕ) → areNodes a q ≡ false → (1 ≤ x) × (x ≤ 32) → (1 ≤ p) × (p ≤ 32) → (eqb x a && eqb p q) ≡ false
-not-both a q x p e hx hp =
-    not-so (eqb x a && eqb p q)
-    (λ k.
-    let h = both (eqb x a) (eqb p q) k in
-    let v = eqb-true x a (h .0) in
-    let w = eqb-true p q (h .1) in
-    never (sym e ∙ rw (← v, ← w, le-leb 1 x (hx .0), le-leb x 32 (hx .1), le-leb 1 p (hp .0), le-leb p 32 (hp .1))))
+-- among all of show's associations
+shown-once : (l : List ℕ) → OneForEach l (shown l)
+unfolding shown usersOf
+shown-once l out a q = go (areNodes a q) refl
+  where
+    at : ℕ
+    at = usersPlace out a q
 
-module _ (out : Bool) (a q : ℕ) where
-  nodes-own : (1 ≤ q) × (q ≤ 32) → (k j b : ℕ) (l : List ℕ) → b + j ≡ a → j < k
-      → allFor out a q (associations k b l) ≡ association out a q (getD l (placeFrom out j q) 0)
-  nodes-own h zero j b l e i = absurd (omega arith)
-  nodes-own h (suc k) zero b l e i =
-      let w : b ≡ a = omega arith in
-      let rest : allFor out a q (associations k (a + 1) (drop 64 l)) ≡ [] =
-      nodes-apart out a q k (a + 1) (drop 64 l) (λ x p i j m n. rw (ne-eqb x a (λ z. omega arith))) in
-      rw w (node-lines out a q k a l ∙ rw (rest, append-nil) (node-own out a q h l))
-  nodes-own h (suc k) (suc j) b l e i =
-      let ne : b ≡ a → ⊥ = λ z. omega arith in
-      let w : 64 + placeFrom out j q ≡ placeFrom out (suc j) q = omega arith in
-      node-lines out a q k b l
-      ∙ rw (node-apart out a q false b 1 (take 32 l) ne, node-apart out a q true b 1 (take 32 (drop 32 l)) ne)
-      (nodes-own h k j (b + 1) (drop 64 l) (omega arith) (omega arith)
-      ∙ ap (association out a q) (getD-drop 64 l (placeFrom out j q) 0 ∙ ap (λ (n : ℕ). getD l n 0) w))
+    go : (b : Bool) → areNodes a q ≡ b → allFor out a q (entriesFrom associationAt 0 (take 2048 l)) ≡ association out a q (cond b (getD l at 0) 0)
+    go true e =
+        let i = place-below out a q e in
+        place-own out a q at
+        (one-place out (wayAt at) a q (nodeAt at) (peerAt at) e (nodes-at at i) (sym (place-of at)))
+        (λ p ne. not-so _ (λ z. let w = at-parts out a q p z in ne (sym (place-of p) ∙ rw (w .0, w .1, w .2) refl)))
+        at 0 (take 2048 l) (omega arith)
+        ∙ ap (association out a q) (getD-take 2048 l at 0 i)
+    go false e =
+        places-other out a q 0 (take 2048 l)
+        (λ p i j.
+        not-so _ (λ z. let w = at-parts out a q p z in never (sym e ∙ (rw (w .1, w .2) at (nodes-at p (omega (arith, length-take 2048 l)))))))
 
-  -- the line among all of show's lines
-  shown-once : (l : List ℕ) → allFor out a q (shown l) ≡ association out a q (usersOf l out a q)
-  unfolding shown usersOf
-  shown-once l = go (areNodes a q) refl
-    where
-      go : (b : Bool) → areNodes a q ≡ b → allFor out a q (associations 32 1 l) ≡ association out a q (cond b (getD l (usersPlace out a q) 0) 0)
-      go true e =
-          let b = node-bounds a q e in
-          nodes-own (b .2, b .3) 32 (a - 1) 1 l (omega (arith, b)) (omega (arith, b))
-      go false e = nodes-apart out a q 32 1 l (λ x p i j m n. not-both a q x p e (i, omega arith) (m, n))
+-- ---- one list alone is so
+
+abbrev ownOf : ShownAssociation → List ShownAssociation → List ShownAssociation
+ownOf x m = allFor (x .out) (x .node) (x .peer) m
+
+-- y is the association x: its key is x's, and only then
+own-key : (x y : ShownAssociation) → isFor (x .out) (x .node) (x .peer) y ≡ true → associationKey y ≡ associationKey x
+own-key x y e = let w = same-parts (y .out) (x .out) (y .node) (x .node) (y .peer) (x .peer) e in rw (w .0, w .1, w .2) refl
+
+same-number : (b c : Bool) → _≡_ {A = ℕ} (cond b 1 0) (cond c 1 0) → b ≡ c
+same-number true true e = refl
+same-number true false e = absurd (omega arith)
+same-number false true e = absurd (omega arith)
+same-number false false e = refl
+
+key-own : (x y : ShownAssociation) → associationKey x ≡ associationKey y → isFor (x .out) (x .node) (x .peer) y ≡ true
+key-own x y e =
+    let a = ap (λ (k : List ℕ). getD k 0 0) e in
+    let w = same-number (x .out) (y .out) (ap (λ (k : List ℕ). getD k 1 0) e) in
+    let q = ap (λ (k : List ℕ). getD k 2 0) e in
+    rw (a, w, q) (same-itself (y .out) (y .node) (y .peer))
+
+own-before : (x y z : ShownAssociation) → isFor (x .out) (x .node) (x .peer) z ≡ true → Before associationKey y z → Before associationKey y x
+own-before x y z e h = subst (λ k. before (associationKey y) k ≡ true) (own-key x z e) h
+
+own-cons : (x : ShownAssociation) (m : List ShownAssociation) → ownOf x (x ∷ m) ≡ x ∷ ownOf x m
+own-cons x m = rw (same-itself (x .out) (x .node) (x .peer)) refl
+
+-- one list has x, the other has none of it
+missing : (x : ShownAssociation) (m s : List ShownAssociation) → ownOf x (x ∷ m) ≡ ownOf x s → ownOf x s ≡ [] → ⊥
+missing x m s e f =
+    let g : x ∷ ownOf x m ≡ [] = sym (own-cons x m) ∙ e ∙ f in
+    clash cc
+
+-- where x comes before y, it is neither y nor behind y
+none-behind : (x y : ShownAssociation) (s : List ShownAssociation) → Before associationKey x y → All (Before associationKey y) s → ownOf x (y ∷ s) ≡ []
+none-behind x y s h k =
+    all-other (x .out) (x .node) (x .peer) (y ∷ s)
+    (not-so _ (λ e. let f = own-before x x y e h in one-way (associationKey x) (associationKey x) f f),
+    all-map _ _ (λ z i. not-so _ (λ e. one-way (associationKey x) (associationKey y) h (own-before x y z e i))) s k)
+
+-- what one element does to both lists, it undoes
+tail-same : (b : Bool) (x : ShownAssociation) (m s : List ShownAssociation) → cond b (x ∷ m) m ≡ cond b (x ∷ s) s → m ≡ s
+tail-same true x m s e = ap (drop 1) e
+tail-same false x m s e = e
+
+rising-same : (m s : List ShownAssociation) → Rising associationKey m → Rising associationKey s
+    → ((out : Bool) (a q : ℕ) → allFor out a q m ≡ allFor out a q s) → m ≡ s
+rising-same [] [] h k e = refl
+rising-same [] (y ∷ s) h k e = absurd (missing y s [] (sym (e (y .out) (y .node) (y .peer))) refl)
+rising-same (x ∷ m) [] h k e = absurd (missing x m [] (e (x .out) (x .node) (x .peer)) refl)
+rising-same (x ∷ m) (y ∷ s) h k e = go (rising-same m s (h .1) (k .1)) (compared (associationKey x) (associationKey y))
+  where
+    go : (((out : Bool) (a q : ℕ) → allFor out a q m ≡ allFor out a q s) → m ≡ s) → Compared (associationKey x) (associationKey y) → x ∷ m ≡ y ∷ s
+    go more (earlier i) = absurd (missing x m (y ∷ s) (e (x .out) (x .node) (x .peer)) (none-behind x y s i (k .0)))
+    go more (later i) = absurd (missing y s (x ∷ m) (sym (e (y .out) (y .node) (y .peer))) (none-behind y x m i (h .0)))
+    go more (same i) =
+        let f = rw (own-cons x m, key-own x y i) at (e (x .out) (x .node) (x .peer)) in
+        let g = ap (λ (l : List ShownAssociation). getD l 0 x) f in
+        rw g (ap (λ (l : List ShownAssociation). y ∷ l) (more (λ out a q. tail-same (isFor out a q y) y (allFor out a q m) (allFor out a q s) (rw g at (e out a q)))))
+
+-- ---- the promise
+
+show-written : (s : State) (size : ℕ)
+    → answered s (text form.show) size ≡ cond (ltb size 65536) (short s) (reported s (shownLines (s .users)))
+unfolding answered requested
+show-written s size = rw show-read
 
 pub show : Show
-show = record { once = λ l out a q. shown-once out a q l; fits = shown-fits }
+show =
+    record {
+      written = show-written;
+      once = shown-once;
+      ordered = shown-ordered;
+      fixed = λ l m h k. rising-same m (shown l) k (shown-ordered l) (λ out a q. h out a q ∙ sym (shown-once l out a q));
+      fits = shown-fits;
+    }

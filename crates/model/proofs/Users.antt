@@ -54,7 +54,7 @@ node-bounds a q h =
     let c = within-bounds 1 32 q (e .1) in
     (b .0, b .1, c .0, c .1)
 
-one-place : (o p : Bool) (a q b s : ℕ) → areNodes a q ≡ true → areNodes b s ≡ true → usersPlace o a q ≡ usersPlace p b s
+pub one-place : (o p : Bool) (a q b s : ℕ) → areNodes a q ≡ true → areNodes b s ≡ true → usersPlace o a q ≡ usersPlace p b s
     → (sameWay p o && (eqb b a && eqb s q)) ≡ true
 one-place o p a q b s h k = go o p (node-bounds a q h) (node-bounds b s k)
   where
@@ -69,12 +69,12 @@ pub place-below : (out : Bool) (a q : ℕ) → areNodes a q ≡ true → usersPl
 place-below true a q h = omega (arith, node-bounds a q h)
 place-below false a q h = omega (arith, node-bounds a q h)
 
--- a row that names the association has its way, node and peer
-names-same : (out : Bool) (a q : ℕ) (r : Row) → names out a q r ≡ true → (r .out ≡ out) × (r .node ≡ a) × (r .peer ≡ q)
-names-same out a q r e =
-    let h = both (sameWay (r .out) out) (eqb (r .node) a && eqb (r .peer) q) e in
-    let k = both (eqb (r .node) a) (eqb (r .peer) q) (h .1) in
-    (same-way (r .out) out (h .0), eqb-true (r .node) a (k .0), eqb-true (r .peer) q (k .1))
+-- the same association: way, node and peer
+pub same-parts : (o out : Bool) (b a s q : ℕ) → (sameWay o out && (eqb b a && eqb s q)) ≡ true → (o ≡ out) × (b ≡ a) × (s ≡ q)
+same-parts o out b a s q e =
+    let h = both (sameWay o out) (eqb b a && eqb s q) e in
+    let k = both (eqb b a) (eqb s q) (h .1) in
+    (same-way o out (h .0), eqb-true b a (k .0), eqb-true s q (k .1))
 
 -- ---- users, as one row changes them
 
@@ -99,11 +99,11 @@ module _ (out : Bool) (a q : ℕ) (h : areNodes a q ≡ true) where
       go : (b : Bool) → areNodes (r .node) (r .peer) ≡ b → (c : Bool) → names out a q r ≡ c
           → getD (cond b (set l (rowPlace r) (f (getD l (rowPlace r) 0))) l) at 0 ≡ cond c (f (getD l at 0)) (getD l at 0)
       go true k true e =
-          let n = names-same out a q r e in
+          let n = same-parts (r .out) out (r .node) a (r .peer) q e in
           rw (n .0, n .1, n .2) (getD-set-same l at (f (getD l at 0)) 0 (omega (arith, place-below out a q h)))
       go true k false e = getD-set-other l (rowPlace r) at _ 0 (λ w. never (sym e ∙ one-place out (r .out) a q (r .node) (r .peer) h k w))
       go false k true e =
-          let n = names-same out a q r e in
+          let n = same-parts (r .out) out (r .node) a (r .peer) q e in
           never (sym k ∙ rw (n .1, n .2) h)
       go false k false e = refl
 

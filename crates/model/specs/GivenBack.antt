@@ -1,10 +1,9 @@
 -- The network's text gives that network again, and no other (document 02, #101). Proved in proofs/GivenBack. Assumes nothing.
-use Prim.Native.Nat.{ℕ, _+_, _*_, _≤_, _<_}
+use Prim.Native.Nat.{ℕ, _≤_}
 use mathlib.Core.Path.{_≡_}
 use mathlib.Core.Bool.{true, false, cond}
 use mathlib.Core.List.{List, [], _∷_, map}
 use mathlib.Core.Logic.{_↔_}
-use mathlib.Core.Option.{none}
 use lib.Dec.{ltb}
 use lib.ListN.{length}
 use Rattle.calculus.specs.declared.answer.Answer.the-variants.{Ok}
@@ -14,12 +13,12 @@ use Rattle.calculus.specs.declared.network.Node.{Node}
 use Rattle.calculus.specs.declared.state.State.{State}
 use Rattle.forms.specs.Text.{Form, node, route, «open», step, send, close, show, net, text}
 use Rattle.forms.specs.Line.{lines}
-use Rattle.model.specs.Lists.{All}
+use Rattle.model.specs.Lists.{All, Rising}
 use Rattle.model.specs.Network.{noNode, nextHop}
 use Rattle.model.specs.NetworkText.{networkForms, networkLines, networkText}
 use Rattle.model.specs.State.{fresh}
 use Rattle.model.specs.Requests.{accepted, nodesGiven, leadsBack}
-use Rattle.model.specs.Calls.{answer, report, Reply, short, answered, Call, after, replies}
+use Rattle.model.specs.Calls.{answer, Reply, reported, short, answered, Call, after, replies}
 use Rattle.model.specs.Texts.{roomyCall, afterLines}
 
 -- ---- the networks that calls leave
@@ -39,22 +38,16 @@ pub record Consistent (n : Network) : Type 0 where
 
 -- ---- the text's order
 
--- where a form stands. Numbers of nodes are at most 32: so nodes come first, by number; then routes, by at, then by destination. No other
--- form gives a network
-abbrev pub rank : Form → ℕ
-rank (node a k has needs) = a
-rank (route a b next) = 33 * a + b
-rank («open» u c d) = 0
-rank (step u k) = 0
-rank (send u w tag) = 0
-rank (close u) = 0
-rank show = 0
-rank net = 0
-
--- each number is above the one before it, and the first above `least`
-abbrev pub Ascending : ℕ → List ℕ → Type 0
-Ascending least [] = Unit
-Ascending least (n ∷ ns) = (least < n) × Ascending n ns
+-- nodes come first, by number; then routes, by at, then by destination. No other form gives a network
+abbrev pub formKey : Form → List ℕ
+formKey (node a k has needs) = 0 ∷ a ∷ []
+formKey (route a b next) = 1 ∷ a ∷ b ∷ []
+formKey («open» u c d) = []
+formKey (step u k) = []
+formKey (send u w tag) = []
+formKey (close u) = []
+formKey show = []
+formKey net = []
 
 -- ---- the text, read
 
@@ -70,9 +63,9 @@ pub record GivenBack : Type 0 where
   -- "(net) writes it", at any time, and changes nothing; of a line that is `(net)` refusal 0 is the only one
   pub written : (s : State) (size : ℕ)
       → answered s (text net) size
-      ≡ cond (ltb size 65536) (short s) (record { state = s; lines = report (networkLines (s .network)); refusal = none })
+      ≡ cond (ltb size 65536) (short s) (reported s (networkLines (s .network)))
   -- "nodes rising, then routes by at, then by destination"
-  pub ordered : (n : Network) → Consistent n → Ascending 0 (map rank (networkForms n))
+  pub ordered : (n : Network) → Rising formKey (networkForms n)
   -- whatever is called of a fresh state, the network is consistent
   pub consistent : (cs : List Call) → Consistent (after fresh cs .network)
   -- "Read on a fresh desk, the output gives that network again", and changes nothing else; each line is accepted

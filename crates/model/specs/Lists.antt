@@ -1,7 +1,9 @@
--- Walks over lists. Assumes nothing.
+-- Walks over lists, and their order. Assumes nothing.
 use Prim.Native.Nat.{ℕ, zero, suc, _+_}
-use mathlib.Core.Bool.{Bool, cond}
+use mathlib.Core.Path.{_≡_}
+use mathlib.Core.Bool.{Bool, true, false, cond, _&&_, _||_}
 use mathlib.Core.List.{List, [], _∷_}
+use lib.Dec.{ltb, eqb}
 
 -- f from the front on, beginning with b
 abbrev pub fold : {A B : Type 0} → (B → A → B) → B → List A → B
@@ -27,3 +29,14 @@ All P (x ∷ xs) = P x × All P xs
 unfoldable pub upFrom : ℕ → ℕ → List ℕ
 upFrom n zero = []
 upFrom n (suc k) = (n + 1) ∷ upFrom (n + 1) k
+
+-- lexicographic order: the number at the first place where two lists differ tells, and an end comes before any number
+abbrev pub before : List ℕ → List ℕ → Bool
+before l [] = false
+before [] (b ∷ m) = true
+before (a ∷ l) (b ∷ m) = ltb a b || (eqb a b && before l m)
+
+-- in strictly rising order of their keys: each comes before all that stand behind it
+abbrev pub Rising : {A : Type 0} → (A → List ℕ) → List A → Type 0
+Rising key [] = Unit
+Rising key (x ∷ xs) = All (λ y. before (key x) (key y) ≡ true) xs × Rising key xs

@@ -1,9 +1,9 @@
 -- What each request answers, and the state that it leaves; its refusals, in document 01's order. Assumes nothing.
-use Prim.Native.Nat.{ℕ, zero, suc, _+_, _-_}
+use Prim.Native.Nat.{ℕ, _+_, _-_, _/_, _%_}
 use mathlib.Core.Bool.{Bool, true, false, cond, not, _&&_, _||_}
 use mathlib.Core.List.{List, [], _∷_, _++_, map}
 use lib.Dec.{leb, ltb, eqb}
-use lib.ListN.{getD, set, take, drop}
+use lib.ListN.{getD, set, take}
 use Rattle.calculus.specs.declared.answer.Answer.{Answer}
 use Rattle.calculus.specs.declared.answer.Answer.the-variants.{Ok, Made, Closed, No}
 use Rattle.calculus.specs.declared.answer.ShownAssociation.{ShownAssociation}
@@ -236,16 +236,13 @@ inSession s u f = performed s u (f (load s u))
 abbrev pub association : Bool → ℕ → ℕ → ℕ → List ShownAssociation
 association out a q n = onlyIf (ltb 0 n) (record { node = a; out = out; peer = q; spi = spiOf out a q; users = n })
 
--- those of k nodes from a on, whose users are l: in, then out, each by peer
-unfoldable pub associations : ℕ → ℕ → List ℕ → List ShownAssociation
-associations zero a l = []
-associations (suc k) a l =
-    entriesFrom (association false a) 1 (take 32 l)
-    ++ (entriesFrom (association true a) 1 (take 32 (drop 32 l)) ++ associations k (a + 1) (drop 64 l))
+-- the one whose n users stand at place p of their table: p is its `usersPlace`
+abbrev pub associationAt : ℕ → ℕ → List ShownAssociation
+associationAt p n = association (leb 32 (p % 64)) (p / 64 + 1) (p % 32 + 1) n
 
--- the standing associations, as Show states
+-- the standing associations, in the order of the table's places: "by node, then in before out, then by peer"
 unfoldable pub shown : List ℕ → List ShownAssociation
-shown l = associations 32 1 l
+shown l = entriesFrom associationAt 0 (take 2048 l)
 
 -- "one line for each standing association, no other; then (end)"
 abbrev pub shownLines : List ℕ → List (List ℕ)
