@@ -88,8 +88,9 @@ module _ {A : Type 0} (key : A → List ℕ) where
   rising-entries b f up k (x ∷ l) =
       let more = rising-entries b f up (k + 1) l in
       perhaps (Rising key) (b x)
-      (λ e.
-      (entries-all (Before (f k x)) (λ y. Unit) (λ i y. onlyIf (b y) (f i y)) (k + 1) l (all-of _ (λ y. tt) l)
-      (λ j y i w u. only-all (Before (f k x)) (b y) (λ e. up k j x y (omega arith))),
-      more))
+      (λ e. (
+        entries-all (Before (f k x)) (λ y. Unit) (λ i y. onlyIf (b y) (f i y)) (k + 1) l (all-of _ (λ y. tt) l)
+            (λ j y i w u. only-all (Before (f k x)) (b y) (λ e. up k j x y (omega arith))),
+        more,
+      ))
       (λ e. more)

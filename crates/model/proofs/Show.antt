@@ -179,9 +179,10 @@ missing x m s e f =
 -- where x comes before y, it is neither y nor behind y
 none-behind : (x y : ShownAssociation) (s : List ShownAssociation) → Before associationKey x y → All (Before associationKey y) s → ownOf x (y ∷ s) ≡ []
 none-behind x y s h k =
-    all-other (x .out) (x .node) (x .peer) (y ∷ s)
-    (not-so _ (λ e. let f = own-before x x y e h in one-way (associationKey x) (associationKey x) f f),
-    all-map _ _ (λ z i. not-so _ (λ e. one-way (associationKey x) (associationKey y) h (own-before x y z e i))) s k)
+    all-other (x .out) (x .node) (x .peer) (y ∷ s) (
+      not-so _ (λ e. let f = own-before x x y e h in one-way (associationKey x) (associationKey x) f f),
+      all-map _ _ (λ z i. not-so _ (λ e. one-way (associationKey x) (associationKey y) h (own-before x y z e i))) s k,
+    )
 
 -- what one element does to both lists, it undoes
 tail-same : (b : Bool) (x : ShownAssociation) (m s : List ShownAssociation) → cond b (x ∷ m) m ≡ cond b (x ∷ s) s → m ≡ s

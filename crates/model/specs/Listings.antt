@@ -62,13 +62,17 @@ toAck =
     ∷ "(step u 17)" ⇒ "(made 18)" ∷ "(step u 18)" ⇒ "(made 19)" ∷ "(step u 19)" ⇒ "(made 20)" ∷ "(step u 20)" ⇒ "(made 21)"
     ∷ []
 
--- a session of the pair, from its open to stage open
-abbrev pub toOpen : Listing
-toOpen =
-    "(open u 1 2)" ⇒ "(made 1)" ∷ toAck
+-- and through item 25, with which a session of one tunnel is open
+abbrev pub oneTunnel : Listing
+oneTunnel =
+    toAck
     ++ "(step u 21)" ⇒ "(made 22)" ∷ "(step u 22)" ⇒ "(made 23)" ∷ "(step u 23)" ⇒ "(made 24)" ∷ "(step u 24)" ⇒ "(made 25)"
     ∷ "(step u 25)" ⇒ "(opened)"
     ∷ []
+
+-- a session of the pair, from its open to stage open
+abbrev pub toOpen : Listing
+toOpen = "(open u 1 2)" ⇒ "(made 1)" ∷ oneTunnel
 
 -- session 1 through the responder's grant, then data from node 1 to node 2
 abbrev pub dataAtGrant : Listing
@@ -137,7 +141,7 @@ listingG =
     ∷ "(step 1 33)" ⇒ "(lost 2)"
     ∷ []
 
--- "Two sessions reach stage open on B's pair, one closes: users of each association 2, then 1"; the order is that of `shown`
+-- "Two sessions reach stage open on B's pair, one closes: users of each association 2, then 1"
 abbrev pub listingH : Listing
 listingH =
     pair ++ session 1 toOpen ++ session 2 toOpen
@@ -312,7 +316,19 @@ networkGivenBack =
     ∷ "(step 1 2)" ⇒ "(made 3 4)" ∷ "(node 4 host (has) (needs))" ⇒ "(no 5)"
     ∷ []
 
+-- #102: whichever came first, node 2 is shown before node 10, the peer 2 before the peer 10, and in before out
+abbrev pub shownInOrder : Listing
+shownInOrder =
+    pair
+    ++ "(node 10 host (has) (needs))" ⇒ "(ok)" ∷ "(route 1 10 10)" ⇒ "(ok)" ∷ "(route 10 1 1)" ⇒ "(ok)"
+    ∷ "(open 1 1 10)" ⇒ "(made 1)" ∷ session 1 oneTunnel
+    ++ "(show)" ⇒ "(assoc 1 in 10 265 1)\n(assoc 1 out 10 544 1)\n(assoc 10 in 1 544 1)\n(assoc 10 out 1 265 1)\n(end)"
+    ∷ session 2 toOpen
+    ++ "(show)"
+    ⇒ "(assoc 1 in 2 257 1)\n(assoc 1 in 10 265 1)\n(assoc 1 out 2 288 1)\n(assoc 1 out 10 544 1)\n(assoc 2 in 1 288 1)\n(assoc 2 out 1 257 1)\n(assoc 10 in 1 544 1)\n(assoc 10 out 1 265 1)\n(end)"
+    ∷ []
+
 abbrev pub furtherExamples : List Listing
 furtherExamples =
     throughGateway ∷ newestOfTwoRows ∷ exhausted ∷ dataInFirstOfThree ∷ threeTunnels ∷ serverSends ∷ lossesAtAGateway ∷ refusalsInOrder
-    ∷ networkGivenBack ∷ []
+    ∷ networkGivenBack ∷ shownInOrder ∷ []

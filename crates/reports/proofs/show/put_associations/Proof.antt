@@ -1,43 +1,55 @@
--- `show::put_associations` meets its contract. The loop's invariant: the lines of the first i nodes are put. Assumes nothing.
-use mathlib.Core.Path.{_≡_}
-use Prim.Native.Nat.{_-_, _*_, _≤_}
-use native.Mathlib.Numerals.{add-one}
+-- `show::put_associations` meets its contract. The loop's invariant: the lines of the first i places are put. Assumes nothing.
+use Prim.Native.Nat.{_-_}
 use native.Mathlib.Omega.{arith}
 use borrow.Author.Needs.{needs}
-use Rattle.model.specs.Requests.{associations}
-use Rattle.reports.specs.Puts.{Puts}
-use Rattle.reports.proofs.Puts.{puts-none, puts-append, puts-size}
-use Rattle.reports.proofs.Shown.{texts, nodes-next}
+use lib.ListN.{length}
+use lib.Seq.{take-all}
+use Rattle.forms.specs.Answer.{associationLine}
+use Rattle.model.specs.Requests.{associationAt, shown}
+use Rattle.reports.proofs.Puts.{Firsts, firsts-none, firsts-more, firsts-all, puts-few, puts-size}
 use Rattle.reports.proofs.show.put_associations.Statement.{statement}
 use Rattle.reports.proofs.show.put_associations.Tie as tie
 
 abbrev Inv-loop : tie.InvT-loop
-Inv-loop out₀ at users next₀ i₀ out next i = (i ≤ 32) × Puts (1856 * i) out₀ at (texts (associations i 1 users)) out next
+Inv-loop out₀ at users next₀ i₀ out next i = Firsts associationLine associationAt 0 29 users out₀ at i out next
 
 abbrev μ-loop : tie.MeasureT-loop
-μ-loop out₀ at users next₀ i₀ out next i = 32 - i
+μ-loop out₀ at users next₀ i₀ out next i = 2048 - i
 
 loop-holds : tie.Need-loop-holds Inv-loop μ-loop
-unfolding associations
-loop-holds c = (omega arith, puts-none)
+loop-holds c = firsts-none
 
-put-both-ways-requires : tie.Need-put-both-ways-requires Inv-loop μ-loop
-put-both-ways-requires c κs = (search needs, search needs, omega (arith, puts-size (c .before .before .loop .inv .1)))
+put-association-requires : tie.Need-put-association-requires Inv-loop μ-loop
+put-association-requires c κs =
+    let x = c .before .before .before .loop .inv in
+    (search needs, omega (arith, x .puts .put .place, x .puts .few, puts-size (x .puts)))
 
 loop-again : tie.Need-loop-again Inv-loop μ-loop
 loop-again c =
-    let x = c .before .before .before .before .before .loop .inv .1 in
-    (omega arith, rw (add-one, nodes-next _ 1 _) (puts-append x (c .before .before .put-both-ways .ensures) (omega arith)))
+    firsts-more _ _ (omega arith) (search needs) (c .before .before .before .before .before .before .loop .inv)
+    (c .before .before .put-association .ensures)
 
 same-length : tie.Need-same-length Inv-loop μ-loop
-same-length c = puts-size (c .before .loop .inv .1)
+same-length c = puts-size (c .before .loop .inv .puts)
 
 returns : tie.Need-returns Inv-loop μ-loop
+unfolding shown
 returns c =
-    let e : c .before .loop .i ≡ 32 = omega arith in
-    rw e at (c .before .loop .inv .1)
+    let x = firsts-all (search needs) (c .before .loop .inv) in
+    rw (take-all 2048 (c .before .before .before .before .args .users .now) (search needs)) (puts-few x (omega (arith, x .few, c .before .loop .inv .inside)))
 
 pub put-associations-spec : {M : Type 1} → statement M
 put-associations-spec =
     tie.close
-    (tie.spec Inv-loop μ-loop loop-holds put-both-ways-requires (λ c. search needs) (λ c. search needs) loop-again same-length returns)
+    (tie.spec
+    Inv-loop
+    μ-loop
+    loop-holds
+    (λ c. search needs)
+    (λ c. search needs)
+    put-association-requires
+    (λ c. search needs)
+    (λ c. search needs)
+    loop-again
+    same-length
+    returns)
