@@ -6,6 +6,7 @@ pub mod compare;
 pub mod damage;
 pub mod form;
 pub mod lines;
+pub mod listing;
 pub mod lists;
 pub mod network;
 pub mod program;

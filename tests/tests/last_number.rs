@@ -2,16 +2,11 @@
 //! the order of refusals.
 
 use simulator_tests::compare::difference;
+use simulator_tests::listing::{script, Script};
 use simulator_tests::{lines, program};
 
 const NETWORK: &str = "(node 1 host (has) (needs))\n(node 2 host (has) (needs))\n(node 3 gate (has) (needs))\n\
                        (route 1 2 2)\n(route 2 1 1)\n";
-
-type Script = Vec<(String, String)>;
-
-fn script(lines: &[(&str, &str)]) -> Script {
-    lines.iter().map(|(call, answer)| (call.to_string(), answer.to_string())).collect()
-}
 
 /// Drives session 1, closed, to this last number, a multiple of six: an open, three steps and a close take six numbers.
 fn drive_to(last: u64) -> String {

@@ -1,18 +1,8 @@
 //! Listings A to I of document 01, on both implementations.
 
 use simulator_tests::compare::check;
+use simulator_tests::listing::{script, steps, Script};
 use simulator_tests::simulator::Simulator;
-
-type Script = Vec<(String, String)>;
-
-fn script(lines: &[(&str, &str)]) -> Script {
-    lines.iter().map(|(call, answer)| (call.to_string(), answer.to_string())).collect()
-}
-
-/// Steps of one session.
-fn steps(session: u64, steps: &[(u64, &str)]) -> Script {
-    steps.iter().map(|(item, answer)| (format!("(step {session} {item})"), answer.to_string())).collect()
-}
 
 fn open(session: u64) -> Script {
     script(&[(&format!("(open {session} 1 2)"), "(made 1)")])
