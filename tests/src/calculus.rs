@@ -77,13 +77,15 @@ impl Item {
     }
 }
 
+/// In stands before out: the order of associations goes by it.
 #[derive(Clone, Copy, Debug, PartialEq, Eq, PartialOrd, Ord)]
 pub enum Direction {
     In,
     Out,
 }
 
-/// In(node, peer) or Out(node, peer).
+/// In(node, peer) or Out(node, peer). The derived order, which goes by the fields as they stand here, is show's (#102): by
+/// node, then in before out, then by peer.
 #[derive(Clone, Copy, Debug, PartialEq, Eq, PartialOrd, Ord)]
 pub struct Association {
     pub node: u64,

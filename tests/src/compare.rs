@@ -1,20 +1,11 @@
-//! Compares outputs, byte for byte but for the order of show, which document 01 leaves open.
+//! Compares outputs, byte by byte.
 
 use crate::lists::{input, List};
 use crate::{lines, program};
 
-/// The output's lines, each with its newline; the associations of a show are sorted.
-fn normal(output: &[u8]) -> Vec<&[u8]> {
-    let mut lines: Vec<&[u8]> = output.split_inclusive(|&byte| byte == b'\n').collect();
-    // `(end)` stands between the associations of two shows
-    for show in lines.chunk_by_mut(|one, next| is_association(one) && is_association(next)) {
-        show.sort();
-    }
-    lines
-}
-
-fn is_association(line: &[u8]) -> bool {
-    line.starts_with(b"(assoc ")
+/// The output's lines, each with its newline: no byte is left out.
+fn lines_of(output: &[u8]) -> Vec<&[u8]> {
+    output.split_inclusive(|&byte| byte == b'\n').collect()
 }
 
 /// Whether it is a line of the network's text: no other answer has such lines.
@@ -25,7 +16,7 @@ pub fn is_network(line: impl AsRef<[u8]>) -> bool {
 
 /// The first line that differs: its index and what was expected and written there.
 pub fn difference(expected: &[u8], output: &[u8]) -> Option<(usize, String)> {
-    let (expected, output) = (normal(expected), normal(output));
+    let (expected, output) = (lines_of(expected), lines_of(output));
     let line = (0..expected.len().max(output.len())).find(|&line| expected.get(line) != output.get(line))?;
     let text = |lines: &[&[u8]]| lines.get(line).map(|line| String::from_utf8_lossy(line).into_owned());
     Some((line, format!("expected {:?}, written {:?}", text(&expected), text(&output))))

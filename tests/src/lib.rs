@@ -1,5 +1,5 @@
-//! A second implementation of document 01 and request #101 of document 02, written from the documents alone, and what
-//! the tests share.
+//! A second implementation of document 01 and requests #101 and #102 of document 02, written from the documents alone,
+//! and what the tests share.
 
 pub mod calculus;
 pub mod compare;

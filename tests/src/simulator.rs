@@ -140,7 +140,8 @@ impl Simulator {
         one("(closed)")
     }
 
-    /// The users of an association are the rows that name it, so they are counted here and stored nowhere.
+    /// The users of an association are the rows that name it, so they are counted here and stored nowhere. The map keeps
+    /// associations in their order, which is show's.
     fn show(&self) -> Vec<String> {
         let mut users: BTreeMap<Association, u64> = BTreeMap::new();
         for row in self.sessions.values().flat_map(|session| &session.rows) {

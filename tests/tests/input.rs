@@ -1,8 +1,8 @@
 //! How the program takes its input and gives its output, on the program alone.
 
-use simulator_tests::compare::{difference, difference_from_list};
+use simulator_tests::compare::difference_from_list;
 use simulator_tests::damage::long_form;
-use simulator_tests::lists::{self, list, LateNetwork};
+use simulator_tests::lists::{list, LateNetwork};
 use simulator_tests::program::{self, Running};
 use simulator_tests::random::{setting, Random};
 use std::io::Write;
@@ -22,8 +22,7 @@ fn answers_each_line_as_it_comes() {
     for (call, answer) in list.calls.iter().zip(&list.answers) {
         input.write_all(&[call, &b"\n"[..]].concat()).expect("the line is written");
         let lines: Vec<String> = answer.iter().map(|_| output.receive()).collect();
-        let difference = difference(&lists::input(answer), &lists::input(&lines));
-        assert_eq!(difference, None, "{}", String::from_utf8_lossy(call));
+        assert_eq!(&lines, answer, "{}", String::from_utf8_lossy(call));
     }
     drop(input);
     assert!(program.wait().success());
