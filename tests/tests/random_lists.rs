@@ -1,5 +1,5 @@
-//! Random lists of calls on the program, compared with the second implementation. SEED and COUNT in the environment
-//! choose others.
+//! Random lists of calls on the program, compared with the second implementation; and the order of each show, by the
+//! program's text alone. SEED and COUNT in the environment choose others.
 
 use simulator_tests::compare::difference_from_list;
 use simulator_tests::lists::{list, LateNetwork};
@@ -10,14 +10,16 @@ use std::path::PathBuf;
 
 const CALLS: usize = 400;
 
-/// In how many lists each kind of answer was met.
+/// In how many lists each kind of answer, and of neighbours in a show, was met.
 type Met = BTreeMap<String, u64>;
 
 /// Every kind that lists of this length meet. Refusal 10 needs a session at its last number and is met in the test of
 /// that; refusal 0 is tested by a program of its own, since this one always lends enough output.
 const KINDS: &str = "(ok)|(made _)|(made _ _)|(lost 1)|(lost 2)|(lost 3)|(lost 4)|(lost 5)|(lost 6)|(denied)|(opened)|\
     (delivered _)|(closed)|(assoc _ in _ _ _)|(assoc _ out _ _ _)|(end)|(node _ host)|(node _ gate)|(route _ _ _)|\
-    nothing|(no 1)|(no 2)|(no 3)|(no 4)|(no 5)|(no 6)|(no 7)|(no 8)|(no 9)|(no 11)|(no 12)|(no 13)";
+    nothing|(no 1)|(no 2)|(no 3)|(no 4)|(no 5)|(no 6)|(no 7)|(no 8)|(no 9)|(no 11)|(no 12)|(no 13)|\
+    another node|another node, lower peer|another node, lower as text|in then out|in then out, lower peer|\
+    another peer|another peer, lower as text";
 
 #[test]
 fn program_answers_as_the_second_implementation() {
@@ -29,11 +31,11 @@ fn program_answers_as_the_second_implementation() {
     println!("{met:?}");
     if count >= 500 {
         let missing: Vec<_> = KINDS.split('|').filter(|&kind| !met.contains_key(kind)).collect();
-        assert!(missing.is_empty(), "answers never met: {missing:?}");
+        assert!(missing.is_empty(), "never met: {missing:?}");
     }
 }
 
-/// Compares one list; gives the kinds of the program's answers.
+/// Compares one list; gives the kinds of the program's answers and of neighbours in its shows.
 fn compare(seed: u64, index: u64) -> BTreeSet<String> {
     let list = list(seed, index, CALLS, LateNetwork::Yes);
     let mut input = list.input();
@@ -42,12 +44,15 @@ fn compare(seed: u64, index: u64) -> BTreeSet<String> {
         input.pop();
     }
     let output = program::run(&input);
+    let place = format!("SEED={seed}, list {index}");
     if let Some(difference) = difference_from_list(&list, &output) {
         let path = PathBuf::from(env!("CARGO_TARGET_TMPDIR")).join(format!("list-{seed}-{index}.txt"));
         std::fs::write(&path, input).expect("the input is saved");
-        panic!("SEED={seed}, list {index}: {difference}\nthe input is in {}", path.display());
+        panic!("{place}: {difference}\nthe input is in {}", path.display());
     }
-    let mut kinds: BTreeSet<String> = String::from_utf8_lossy(&output).lines().map(kind).collect();
+    let text = String::from_utf8_lossy(&output);
+    let mut kinds: BTreeSet<String> = text.lines().map(kind).collect();
+    kinds.extend(neighbours(&text, &place));
     if list.answers.iter().any(Vec::is_empty) {
         // the text of the empty network, which the output does not show
         kinds.insert("nothing".to_string());
@@ -65,4 +70,32 @@ fn kind(line: &str) -> String {
     let head = line.split_once(" (has").map_or(line, |(head, _)| head);
     let parts: Vec<String> = head.trim_end_matches(')').split(' ').map(part).collect();
     parts.join(" ") + ")"
+}
+
+/// Asserts that the lines of each show rise strictly: by node, then in before out, then by peer. Gives the kind of each
+/// two neighbours: what tells them apart, and what falls all the same. Two shows have `(end)` between.
+fn neighbours<'a>(text: &'a str, place: &'a str) -> impl Iterator<Item = String> + 'a {
+    let pairs = text.lines().zip(text.lines().skip(1));
+    pairs.filter_map(move |(line, next_line)| {
+        let (one, next) = (association(line)?, association(next_line)?);
+        assert!(one < next, "{place}: {line} is shown before {next_line}");
+        let apart = match (one.0 == next.0, one.1 == next.1) {
+            (false, _) => "another node",
+            (true, false) => "in then out",
+            (true, true) => "another peer",
+        };
+        let though = match (line > next_line, one.2 > next.2) {
+            (true, _) => ", lower as text",
+            (false, true) => ", lower peer",
+            (false, false) => "",
+        };
+        Some(format!("{apart}{though}"))
+    })
+}
+
+/// Node, whether out, and peer of a line of show: by their order, numbers rise as numbers and in comes before out.
+fn association(line: &str) -> Option<(u64, bool, u64)> {
+    let parts: Vec<&str> = line.strip_prefix("(assoc ")?.split(' ').collect();
+    let number = |part: &str| part.parse().expect("node and peer are numbers");
+    Some((number(parts[0]), parts[1] == "out", number(parts[2])))
 }
