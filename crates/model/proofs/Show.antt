@@ -2,13 +2,13 @@
 use mathlib.Core.Path.{_≡_, refl, sym, ap, subst, _∙_}
 use mathlib.Core.Bool.{Bool, true, false, cond, _&&_}
 use mathlib.Core.List.{List, [], _∷_, _++_}
-use Prim.Native.Nat.{ℕ, zero, suc, _+_, _*_, _-_, _/_, _%_, _≤_, _<_}
+use Prim.Native.Nat.{ℕ, zero, suc, _+_, _/_, _%_, _≤_, _<_}
 use native.Mathlib.Omega.{arith}
 use lib.Dec.{leb, ltb, eqb}
 use lib.ListN.{length, getD, take, drop, length-take}
 use lib.Seq.{getD-take}
 use borrow.Author.Tests.{leb-true, leb-false}
-use Rattle.calculus.proofs.Tests.{either, never, clash, bounds-within}
+use Rattle.calculus.proofs.Tests.{Way, is, isnt, way, never, clash, bounds-within}
 use Rattle.calculus.proofs.Table.{perhaps}
 use Rattle.calculus.specs.Table.{entriesFrom, onlyIf}
 use Rattle.calculus.specs.declared.answer.ShownAssociation.{ShownAssociation}
@@ -17,7 +17,7 @@ use Rattle.forms.specs.Text as form
 use Rattle.forms.specs.Text.{text}
 use Rattle.forms.proofs.NetworkForms.{show-read}
 use Rattle.model.specs.Lists.{All, before, Rising}
-use Rattle.model.specs.Row.{sameWay, usersPlace, areNodes, usersOf}
+use Rattle.model.specs.Row.{sameWay, usersPlace, placeOut, placeNode, placePeer, areNodes, usersOf}
 use Rattle.model.specs.Requests.{association, associationAt, shown, shownLines}
 use Rattle.model.specs.Calls.{reported, short, answered, requested}
 use Rattle.model.specs.Show.{isFor, allFor, OneForEach, associationKey, Show}
@@ -29,42 +29,39 @@ use Rattle.model.proofs.Rising.{Before, before-cons, one-way, Compared,
 
 -- ---- the places of the users' table
 
--- the association at place p: way, node, peer
-abbrev wayAt : ℕ → Bool
-wayAt p = leb 32 (p % 64)
+place-of : (p : ℕ) → usersPlace (placeOut p) (placeNode p) (placePeer p) ≡ p
+place-of p = go (way (leb 32 (p % 64)))
+  where
+    go : Way (leb 32 (p % 64)) → usersPlace (placeOut p) (placeNode p) (placePeer p) ≡ p
+    go (is e) = rw e (omega (arith, leb-true 32 (p % 64) e))
+    go (isnt e) = rw e (omega (arith, leb-false 32 (p % 64) e))
 
-abbrev nodeAt : ℕ → ℕ
-nodeAt p = p / 64 + 1
-
-abbrev peerAt : ℕ → ℕ
-peerAt p = p % 32 + 1
-
-place-of : (p : ℕ) → usersPlace (wayAt p) (nodeAt p) (peerAt p) ≡ p
-place-of p =
-    either (λ (n : ℕ). 64 * (nodeAt p - 1) + n + (peerAt p - 1) ≡ p) (wayAt p)
-    (λ e. omega (arith, leb-true 32 (p % 64) e)) (λ e. omega (arith, leb-false 32 (p % 64) e))
-
-nodes-at : (p : ℕ) → p < 2048 → areNodes (nodeAt p) (peerAt p) ≡ true
+nodes-at : (p : ℕ) → p < 2048 → areNodes (placeNode p) (placePeer p) ≡ true
 nodes-at p h =
-    are-nodes (nodeAt p) (peerAt p) (bounds-within 1 32 (nodeAt p) (omega arith) (omega arith)) (bounds-within 1 32 (peerAt p) (omega arith) (omega arith))
+    are-nodes (placeNode p) (placePeer p)
+    (bounds-within 1 32 (placeNode p) (omega arith) (omega arith))
+    (bounds-within 1 32 (placePeer p) (omega arith) (omega arith))
 
 -- ---- in order
 
-way-number : (p : ℕ) → cond (wayAt p) 1 0 ≡ p % 64 / 32
-way-number p =
-    either (λ (n : ℕ). n ≡ p % 64 / 32) (wayAt p)
-    (λ e. omega (arith, leb-true 32 (p % 64) e)) (λ e. omega (arith, leb-false 32 (p % 64) e))
+-- in before out
+out-number : (p : ℕ) → cond (placeOut p) 1 0 ≡ p % 64 / 32
+out-number p = go (way (leb 32 (p % 64)))
+  where
+    go : Way (leb 32 (p % 64)) → cond (placeOut p) 1 0 ≡ p % 64 / 32
+    go (is e) = rw e (omega (arith, leb-true 32 (p % 64) e))
+    go (isnt e) = rw e (omega (arith, leb-false 32 (p % 64) e))
 
 abbrev shownAt : ℕ → ℕ → ShownAssociation
-shownAt p n = shownWith (wayAt p) (nodeAt p) (peerAt p) n
+shownAt p n = shownWith (placeOut p) (placeNode p) (placePeer p) n
 
 places-rise : (i j x y : ℕ) → i < j → Before associationKey (shownAt i x) (shownAt j y)
 places-rise i j x y h =
-    let v = way-number i in
-    let w = way-number j in
-    before-cons (nodeAt i) (nodeAt j) (cond (wayAt i) 1 0 ∷ peerAt i ∷ []) (cond (wayAt j) 1 0 ∷ peerAt j ∷ []) (omega arith)
-    (λ e. before-cons (cond (wayAt i) 1 0) (cond (wayAt j) 1 0) (peerAt i ∷ []) (peerAt j ∷ []) (omega arith)
-    (λ f. before-cons (peerAt i) (peerAt j) [] [] (omega arith) (λ g. absurd (omega arith))))
+    let v = out-number i in
+    let w = out-number j in
+    before-cons (placeNode i) (placeNode j) (cond (placeOut i) 1 0 ∷ placePeer i ∷ []) (cond (placeOut j) 1 0 ∷ placePeer j ∷ []) (omega arith)
+    (λ e. before-cons (cond (placeOut i) 1 0) (cond (placeOut j) 1 0) (placePeer i ∷ []) (placePeer j ∷ []) (omega arith)
+    (λ f. before-cons (placePeer i) (placePeer j) [] [] (omega arith) (λ g. absurd (omega arith))))
 
 shown-ordered : (l : List ℕ) → Rising associationKey (shown l)
 unfolding shown
@@ -75,10 +72,10 @@ shown-ordered l = rising-entries associationKey (ltb 0) shownAt places-rise 0 (t
 module _ (out : Bool) (a q : ℕ) where
   -- the one at place p is it
   abbrev isAt : ℕ → Bool
-  isAt p = sameWay (wayAt p) out && (eqb (nodeAt p) a && eqb (peerAt p) q)
+  isAt p = sameWay (placeOut p) out && (eqb (placeNode p) a && eqb (placePeer p) q)
 
-  at-parts : (p : ℕ) → isAt p ≡ true → (wayAt p ≡ out) × (nodeAt p ≡ a) × (peerAt p ≡ q)
-  at-parts p e = same-parts (wayAt p) out (nodeAt p) a (peerAt p) q e
+  at-parts : (p : ℕ) → isAt p ≡ true → (placeOut p ≡ out) × (placeNode p ≡ a) × (placePeer p ≡ q)
+  at-parts p e = same-parts (placeOut p) out (placeNode p) a (placePeer p) q e
 
   abbrev Other : ShownAssociation → Type 0
   Other x = isFor out a q x ≡ false
@@ -133,7 +130,7 @@ shown-once l out a q = go (areNodes a q) refl
     go true e =
         let i = place-below out a q e in
         place-own out a q at
-        (one-place out (wayAt at) a q (nodeAt at) (peerAt at) e (nodes-at at i) (sym (place-of at)))
+        (one-place out (placeOut at) a q (placeNode at) (placePeer at) e (nodes-at at i) (sym (place-of at)))
         (λ p ne. not-so _ (λ z. let w = at-parts out a q p z in ne (sym (place-of p) ∙ rw (w .0, w .1, w .2) refl)))
         at 0 (take 2048 l) (omega arith)
         ∙ ap (association out a q) (getD-take 2048 l at 0 i)

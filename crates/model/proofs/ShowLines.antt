@@ -1,9 +1,9 @@
 -- How long show's lines are: they fit into the lent output. Assumes nothing.
 use mathlib.Core.Bool.{Bool, true, false, _&&_}
 use mathlib.Core.List.{List, [], _∷_, map}
-use Prim.Native.Nat.{ℕ, _+_, _*_, _/_, _%_, _≤_, _<_}
+use Prim.Native.Nat.{ℕ, _+_, _*_, _≤_, _<_}
 use native.Mathlib.Omega.{arith}
-use lib.Dec.{leb, ltb}
+use lib.Dec.{ltb}
 use lib.ListN.{length, take, length-take, length-append}
 use Rattle.calculus.specs.Number.{isNode, spi}
 use Rattle.calculus.proofs.Tests.{either}
@@ -14,7 +14,7 @@ use Rattle.forms.proofs.Decimal.{width-most}
 use Rattle.forms.proofs.LineWidths.{association-width}
 use Rattle.forms.proofs.Joined.{joined-append}
 use Rattle.model.specs.Lists.{All}
-use Rattle.model.specs.Row.{spiOf}
+use Rattle.model.specs.Row.{placeOut, placeNode, placePeer, spiOf}
 use Rattle.model.specs.Requests.{associationAt, shown, shownLines}
 use Rattle.model.proofs.Users.{node-bounds}
 use Rattle.model.proofs.Lists.{all-take}
@@ -46,7 +46,7 @@ line-width out a q n ha hq hn =
 -- at most one line, that of a place of the table
 pub place-width : (p n : ℕ) → p < 2048 → n ≤ 65535 → length (joined (map associationLine (associationAt p n))) ≤ 29
 place-width p n i h =
-    only-width associationLine 29 (ltb 0 n) _ (λ e. line-width (leb 32 (p % 64)) (p / 64 + 1) (p % 32 + 1) n (omega arith) (omega arith) h)
+    only-width associationLine 29 (ltb 0 n) _ (λ e. line-width (placeOut p) (placeNode p) (placePeer p) n (omega arith) (omega arith) h)
 
 pub shown-fits : (l : List ℕ) → All (λ n. n ≤ 65535) l → length (joined (shownLines l)) ≤ 65536
 unfolding shown

@@ -1,5 +1,5 @@
 -- What each request answers, and the state that it leaves; its refusals, in document 01's order. Assumes nothing.
-use Prim.Native.Nat.{ℕ, _+_, _-_, _/_, _%_}
+use Prim.Native.Nat.{ℕ, _+_, _-_}
 use mathlib.Core.Bool.{Bool, true, false, cond, not, _&&_, _||_}
 use mathlib.Core.List.{List, [], _∷_, _++_, map}
 use lib.Dec.{leb, ltb, eqb}
@@ -32,7 +32,7 @@ use Rattle.model.specs.Lists.{place}
 use Rattle.model.specs.Network.{given, isGateway, nextHop, routePlace}
 use Rattle.model.specs.Packet.{bare}
 use Rattle.model.specs.Item.{isWait, isDataItem, howManyItems}
-use Rattle.model.specs.Row.{held, raised, lowered, spiOf}
+use Rattle.model.specs.Row.{held, placeOut, placeNode, placePeer, raised, lowered, spiOf}
 use Rattle.model.specs.Rules.{rule}
 use Rattle.model.specs.State.{blankSlot, blankPart, load, store, isNumbered, putItem, placed, answerOf, applied}
 
@@ -236,9 +236,9 @@ inSession s u f = performed s u (f (load s u))
 abbrev pub association : Bool → ℕ → ℕ → ℕ → List ShownAssociation
 association out a q n = onlyIf (ltb 0 n) (record { node = a; out = out; peer = q; spi = spiOf out a q; users = n })
 
--- the one whose n users stand at place p of their table: p is its `usersPlace`
+-- the one whose n users stand at place p of their table
 abbrev pub associationAt : ℕ → ℕ → List ShownAssociation
-associationAt p n = association (leb 32 (p % 64)) (p / 64 + 1) (p % 32 + 1) n
+associationAt p n = association (placeOut p) (placeNode p) (placePeer p) n
 
 -- the standing associations, in the order of the table's places: "by node, then in before out, then by peer"
 unfoldable pub shown : List ℕ → List ShownAssociation

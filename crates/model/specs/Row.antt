@@ -1,8 +1,8 @@
 -- What a row means: the packets that it matches, the association that it names, the users that it stands for. Assumes nothing.
-use Prim.Native.Nat.{ℕ, _+_, _*_, _-_}
+use Prim.Native.Nat.{ℕ, _+_, _*_, _-_, _/_, _%_}
 use mathlib.Core.Bool.{Bool, true, false, cond, not, _&&_}
 use mathlib.Core.List.{List}
-use lib.Dec.{ltb, eqb}
+use lib.Dec.{leb, ltb, eqb}
 use lib.ListN.{getD, set, take}
 use Rattle.calculus.specs.Number.{isNode, spi}
 use Rattle.calculus.specs.declared.number.Spi.{Spi}
@@ -82,6 +82,16 @@ admits rows a q = ltb 0 (howMany false a q rows)
 -- the place of an association's users: in the order node, in before out, peer
 abbrev pub usersPlace : Bool → ℕ → ℕ → ℕ
 usersPlace out a q = 64 * (a - 1) + cond out 32 0 + (q - 1)
+
+-- the association whose users stand at place p: whether it is an Out, its node, its peer
+abbrev pub placeOut : ℕ → Bool
+placeOut p = leb 32 (p % 64)
+
+abbrev pub placeNode : ℕ → ℕ
+placeNode p = p / 64 + 1
+
+abbrev pub placePeer : ℕ → ℕ
+placePeer p = p % 32 + 1
 
 abbrev pub areNodes : ℕ → ℕ → Bool
 areNodes a q = isNode a && isNode q
