@@ -1,6 +1,6 @@
 //! The inputs whose speed is measured: lists of calls without newlines. Each maker gives the same list every time, of
-//! exactly `calls` calls, and panics where the list does not keep what its comment promises. No list has a show, whose
-//! order document 01 leaves open.
+//! exactly `calls` calls, and panics where the list does not keep what its comment promises. No list has a show: each
+//! call is answered by one line.
 
 use crate::networks;
 use crate::recorder::Recorder;

@@ -17,7 +17,8 @@ use Rattle.model.proofs.Tables.{only-all, entries-all}
 use Rattle.model.proofs.Rising.{before-cons, Before, rising-append, rising-entries}
 
 -- of each form that an entry makes, whatever the table
-every-entry : {A B : Type 0} (P : B → Type 0) (f : ℕ → A → List B) → ((j : ℕ) (x : A) → All P (f j x)) → (k : ℕ) (l : List A) → All P (entriesFrom f k l)
+every-entry : {A B : Type 0} (P : B → Type 0) (f : ℕ → A → List B) → ((j : ℕ) (x : A) → All P (f j x)) → (k : ℕ) (l : List A)
+    → All P (entriesFrom f k l)
 every-entry P f h k l = entries-all P (λ x. Unit) f k l (all-of _ (λ x. tt) l) (λ j x i w u. h j x)
 
 routes-rise : (i j x y : ℕ) → i < j → Before formKey (route (i / 32 + 1) (i % 32 + 1) x) (route (j / 32 + 1) (j % 32 + 1) y)

@@ -1,6 +1,6 @@
 -- Lists in strictly rising order of their keys. Assumes nothing.
 use mathlib.Core.Path.{_≡_, refl}
-use mathlib.Core.Bool.{Bool, true, false, or-true}
+use mathlib.Core.Bool.{Bool, true, or-true}
 use mathlib.Core.List.{List, [], _∷_, _++_}
 use Prim.Native.Nat.{ℕ, _+_, _≤_, _<_}
 use native.Mathlib.Omega.{arith}
@@ -81,8 +81,8 @@ module _ {A : Type 0} (key : A → List ℕ) where
   rising-append (x ∷ l) m h k up = (all-append (Before x) l m (h .0) (up .0), rising-append l m (h .1) k (up .1))
 
   -- a table's walk that makes at most one of each entry, whose keys rise with the entry's number
-  pub rising-entries : {B : Type 0} (b : B → Bool) (f : ℕ → B → A) → ((i j : ℕ) (x y : B) → i < j → Before (f i x) (f j y)) → (k : ℕ) (l : List B)
-      → Rising key (entriesFrom (λ i x. onlyIf (b x) (f i x)) k l)
+  pub rising-entries : {B : Type 0} (b : B → Bool) (f : ℕ → B → A) → ((i j : ℕ) (x y : B) → i < j → Before (f i x) (f j y))
+      → (k : ℕ) (l : List B) → Rising key (entriesFrom (λ i x. onlyIf (b x) (f i x)) k l)
   unfolding entriesFrom
   rising-entries b f up k [] = tt
   rising-entries b f up k (x ∷ l) =

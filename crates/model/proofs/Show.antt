@@ -59,7 +59,8 @@ places-rise : (i j x y : ℕ) → i < j → Before associationKey (shownAt i x) 
 places-rise i j x y h =
     let v = out-number i in
     let w = out-number j in
-    before-cons (placeNode i) (placeNode j) (cond (placeOut i) 1 0 ∷ placePeer i ∷ []) (cond (placeOut j) 1 0 ∷ placePeer j ∷ []) (omega arith)
+    before-cons (placeNode i) (placeNode j) (cond (placeOut i) 1 0 ∷ placePeer i ∷ []) (cond (placeOut j) 1 0 ∷ placePeer j ∷ [])
+    (omega arith)
     (λ e. before-cons (cond (placeOut i) 1 0) (cond (placeOut j) 1 0) (placePeer i ∷ []) (placePeer j ∷ []) (omega arith)
     (λ f. before-cons (placePeer i) (placePeer j) [] [] (omega arith) (λ g. absurd (omega arith))))
 
@@ -84,13 +85,15 @@ module _ (out : Bool) (a q : ℕ) where
   all-other [] h = refl
   all-other (x ∷ m) h = rw (h .0) (all-other m (h .1))
 
-  places-other : (k : ℕ) (l : List ℕ) → ((p : ℕ) → k ≤ p → p < k + length l → isAt p ≡ false) → allFor out a q (entriesFrom associationAt k l) ≡ []
+  places-other : (k : ℕ) (l : List ℕ) → ((p : ℕ) → k ≤ p → p < k + length l → isAt p ≡ false)
+      → allFor out a q (entriesFrom associationAt k l) ≡ []
   places-other k l h =
       all-other (entriesFrom associationAt k l)
       (entries-all Other (λ n. Unit) associationAt k l (all-of _ (λ n. tt) l) (λ p n i j u. only-all Other (ltb 0 n) (λ e. h p i j)))
 
   -- its own line, and no line of it behind
-  own-first : (n : ℕ) (rest : List ShownAssociation) → allFor out a q rest ≡ [] → allFor out a q (association out a q n ++ rest) ≡ association out a q n
+  own-first : (n : ℕ) (rest : List ShownAssociation) → allFor out a q rest ≡ []
+      → allFor out a q (association out a q n ++ rest) ≡ association out a q n
   own-first n rest h = go (ltb 0 n)
     where
       go : (b : Bool) → allFor out a q (onlyIf b (shownWith out a q n) ++ rest) ≡ onlyIf b (shownWith out a q n)
@@ -126,7 +129,8 @@ shown-once l out a q = go (areNodes a q) refl
     at : ℕ
     at = usersPlace out a q
 
-    go : (b : Bool) → areNodes a q ≡ b → allFor out a q (entriesFrom associationAt 0 (take 2048 l)) ≡ association out a q (cond b (getD l at 0) 0)
+    go : (b : Bool) → areNodes a q ≡ b
+        → allFor out a q (entriesFrom associationAt 0 (take 2048 l)) ≡ association out a q (cond b (getD l at 0) 0)
     go true e =
         let i = place-below out a q e in
         place-own out a q at
@@ -141,12 +145,19 @@ shown-once l out a q = go (areNodes a q) refl
 
 -- ---- one list alone is so
 
-abbrev ownOf : ShownAssociation → List ShownAssociation → List ShownAssociation
-ownOf x m = allFor (x .out) (x .node) (x .peer) m
+abbrev Earlier : ShownAssociation → ShownAssociation → Type 0
+Earlier = Before associationKey
 
--- y is the association x: its key is x's, and only then
-own-key : (x y : ShownAssociation) → isFor (x .out) (x .node) (x .peer) y ≡ true → associationKey y ≡ associationKey x
-own-key x y e = let w = same-parts (y .out) (x .out) (y .node) (x .node) (y .peer) (x .peer) e in rw (w .0, w .1, w .2) refl
+-- y is the association x
+abbrev isSame : ShownAssociation → ShownAssociation → Bool
+isSame x y = isFor (x .out) (x .node) (x .peer) y
+
+abbrev allSame : ShownAssociation → List ShownAssociation → List ShownAssociation
+allSame x m = allFor (x .out) (x .node) (x .peer) m
+
+-- its key is x's then, and only then
+same-key : (x y : ShownAssociation) → isSame x y ≡ true → associationKey y ≡ associationKey x
+same-key x y e = let w = same-parts (y .out) (x .out) (y .node) (x .node) (y .peer) (x .peer) e in rw (w .0, w .1, w .2) refl
 
 same-number : (b c : Bool) → _≡_ {A = ℕ} (cond b 1 0) (cond c 1 0) → b ≡ c
 same-number true true e = refl
@@ -154,52 +165,58 @@ same-number true false e = absurd (omega arith)
 same-number false true e = absurd (omega arith)
 same-number false false e = refl
 
-key-own : (x y : ShownAssociation) → associationKey x ≡ associationKey y → isFor (x .out) (x .node) (x .peer) y ≡ true
-key-own x y e =
+key-same : (x y : ShownAssociation) → associationKey x ≡ associationKey y → isSame x y ≡ true
+key-same x y e =
     let a = ap (λ (k : List ℕ). getD k 0 0) e in
     let w = same-number (x .out) (y .out) (ap (λ (k : List ℕ). getD k 1 0) e) in
     let q = ap (λ (k : List ℕ). getD k 2 0) e in
     rw (a, w, q) (same-itself (y .out) (y .node) (y .peer))
 
-own-before : (x y z : ShownAssociation) → isFor (x .out) (x .node) (x .peer) z ≡ true → Before associationKey y z → Before associationKey y x
-own-before x y z e h = subst (λ k. before (associationKey y) k ≡ true) (own-key x z e) h
+same-earlier : (x y z : ShownAssociation) → isSame x z ≡ true → Earlier y z → Earlier y x
+same-earlier x y z e h = subst (λ k. before (associationKey y) k ≡ true) (same-key x z e) h
 
-own-cons : (x : ShownAssociation) (m : List ShownAssociation) → ownOf x (x ∷ m) ≡ x ∷ ownOf x m
-own-cons x m = rw (same-itself (x .out) (x .node) (x .peer)) refl
+same-first : (x : ShownAssociation) (m : List ShownAssociation) → allSame x (x ∷ m) ≡ x ∷ allSame x m
+same-first x m = rw (same-itself (x .out) (x .node) (x .peer)) refl
 
 -- one list has x, the other has none of it
-missing : (x : ShownAssociation) (m s : List ShownAssociation) → ownOf x (x ∷ m) ≡ ownOf x s → ownOf x s ≡ [] → ⊥
+missing : (x : ShownAssociation) (m s : List ShownAssociation) → allSame x (x ∷ m) ≡ allSame x s → allSame x s ≡ [] → ⊥
 missing x m s e f =
-    let g : x ∷ ownOf x m ≡ [] = sym (own-cons x m) ∙ e ∙ f in
+    let g : x ∷ allSame x m ≡ [] = sym (same-first x m) ∙ e ∙ f in
     clash cc
 
 -- where x comes before y, it is neither y nor behind y
-none-behind : (x y : ShownAssociation) (s : List ShownAssociation) → Before associationKey x y → All (Before associationKey y) s → ownOf x (y ∷ s) ≡ []
+none-behind : (x y : ShownAssociation) (s : List ShownAssociation) → Earlier x y → All (Earlier y) s → allSame x (y ∷ s) ≡ []
 none-behind x y s h k =
     all-other (x .out) (x .node) (x .peer) (y ∷ s) (
-      not-so _ (λ e. let f = own-before x x y e h in one-way (associationKey x) (associationKey x) f f),
-      all-map _ _ (λ z i. not-so _ (λ e. one-way (associationKey x) (associationKey y) h (own-before x y z e i))) s k,
+      not-so _ (λ e. let f = same-earlier x x y e h in one-way (associationKey x) (associationKey x) f f),
+      all-map _ _ (λ z i. not-so _ (λ e. one-way (associationKey x) (associationKey y) h (same-earlier x y z e i))) s k,
     )
 
--- what one element does to both lists, it undoes
-tail-same : (b : Bool) (x : ShownAssociation) (m s : List ShownAssociation) → cond b (x ∷ m) m ≡ cond b (x ∷ s) s → m ≡ s
-tail-same true x m s e = ap (drop 1) e
-tail-same false x m s e = e
+-- two lists have the same associations
+abbrev Alike : List ShownAssociation → List ShownAssociation → Type 0
+Alike m s = (out : Bool) (a q : ℕ) → allFor out a q m ≡ allFor out a q s
 
-rising-same : (m s : List ShownAssociation) → Rising associationKey m → Rising associationKey s
-    → ((out : Bool) (a q : ℕ) → allFor out a q m ≡ allFor out a q s) → m ≡ s
-rising-same [] [] h k e = refl
-rising-same [] (y ∷ s) h k e = absurd (missing y s [] (sym (e (y .out) (y .node) (y .peer))) refl)
-rising-same (x ∷ m) [] h k e = absurd (missing x m [] (e (x .out) (x .node) (x .peer)) refl)
-rising-same (x ∷ m) (y ∷ s) h k e = go (rising-same m s (h .1) (k .1)) (compared (associationKey x) (associationKey y))
+alike-behind : (x : ShownAssociation) (m s : List ShownAssociation) → Alike (x ∷ m) (x ∷ s) → Alike m s
+alike-behind x m s e out a q = go (isFor out a q x) (e out a q)
   where
-    go : (((out : Bool) (a q : ℕ) → allFor out a q m ≡ allFor out a q s) → m ≡ s) → Compared (associationKey x) (associationKey y) → x ∷ m ≡ y ∷ s
+    go : (b : Bool) → cond b (x ∷ allFor out a q m) (allFor out a q m) ≡ cond b (x ∷ allFor out a q s) (allFor out a q s)
+        → allFor out a q m ≡ allFor out a q s
+    go true f = ap (drop 1) f
+    go false f = f
+
+rising-alike : (m s : List ShownAssociation) → Rising associationKey m → Rising associationKey s → Alike m s → m ≡ s
+rising-alike [] [] h k e = refl
+rising-alike [] (y ∷ s) h k e = absurd (missing y s [] (sym (e (y .out) (y .node) (y .peer))) refl)
+rising-alike (x ∷ m) [] h k e = absurd (missing x m [] (e (x .out) (x .node) (x .peer)) refl)
+rising-alike (x ∷ m) (y ∷ s) h k e = go (rising-alike m s (h .1) (k .1)) (compared (associationKey x) (associationKey y))
+  where
+    go : (Alike m s → m ≡ s) → Compared (associationKey x) (associationKey y) → x ∷ m ≡ y ∷ s
     go more (earlier i) = absurd (missing x m (y ∷ s) (e (x .out) (x .node) (x .peer)) (none-behind x y s i (k .0)))
     go more (later i) = absurd (missing y s (x ∷ m) (sym (e (y .out) (y .node) (y .peer))) (none-behind y x m i (h .0)))
     go more (same i) =
-        let f = rw (own-cons x m, key-own x y i) at (e (x .out) (x .node) (x .peer)) in
-        let g = ap (λ (l : List ShownAssociation). getD l 0 x) f in
-        rw g (ap (λ (l : List ShownAssociation). y ∷ l) (more (λ out a q. tail-same (isFor out a q y) y (allFor out a q m) (allFor out a q s) (rw g at (e out a q)))))
+        let f = rw (same-first x m, key-same x y i) at (e (x .out) (x .node) (x .peer)) in
+        let g : x ≡ y = ap (λ (l : List ShownAssociation). getD l 0 x) f in
+        rw g (ap (λ (l : List ShownAssociation). y ∷ l) (more (alike-behind y m s (rw g at e))))
 
 -- ---- the promise
 
@@ -214,6 +231,6 @@ show =
       written = show-written;
       once = shown-once;
       ordered = shown-ordered;
-      fixed = λ l m h k. rising-same m (shown l) k (shown-ordered l) (λ out a q. h out a q ∙ sym (shown-once l out a q));
+      fixed = λ l m h k. rising-alike m (shown l) k (shown-ordered l) (λ out a q. h out a q ∙ sym (shown-once l out a q));
       fits = shown-fits;
     }

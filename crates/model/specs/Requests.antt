@@ -240,7 +240,7 @@ association out a q n = onlyIf (ltb 0 n) (record { node = a; out = out; peer = q
 abbrev pub associationAt : ℕ → ℕ → List ShownAssociation
 associationAt p n = association (placeOut p) (placeNode p) (placePeer p) n
 
--- the standing associations, in the order of the table's places: "by node, then in before out, then by peer"
+-- the standing associations, in the order of the table's 2,048 places: "by node, then in before out, then by peer"
 unfoldable pub shown : List ℕ → List ShownAssociation
 shown l = entriesFrom associationAt 0 (take 2048 l)
 

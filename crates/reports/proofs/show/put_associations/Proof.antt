@@ -2,7 +2,6 @@
 use Prim.Native.Nat.{_-_}
 use native.Mathlib.Omega.{arith}
 use borrow.Author.Needs.{needs}
-use lib.ListN.{length}
 use lib.Seq.{take-all}
 use Rattle.forms.specs.Answer.{associationLine}
 use Rattle.model.specs.Requests.{associationAt, shown}
@@ -35,8 +34,9 @@ same-length c = puts-size (c .before .loop .inv .puts)
 returns : tie.Need-returns Inv-loop μ-loop
 unfolding shown
 returns c =
+    let users = c .before .before .before .before .args .users .now in
     let x = firsts-all (search needs) (c .before .loop .inv) in
-    rw (take-all 2048 (c .before .before .before .before .args .users .now) (search needs)) (puts-few x (omega (arith, x .few, c .before .loop .inv .inside)))
+    rw (take-all 2048 users (search needs)) (puts-few x (omega (arith, x .few, c .before .loop .inv .inside)))
 
 pub put-associations-spec : {M : Type 1} → statement M
 put-associations-spec =
