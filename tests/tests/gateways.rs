@@ -1,6 +1,7 @@
 //! Set-up through a chain of gateways, and data both ways after it, on both implementations.
 
 use simulator_tests::compare::check;
+use simulator_tests::listing::Listing;
 use simulator_tests::simulator::Simulator;
 use std::ops::RangeInclusive;
 
@@ -10,13 +11,13 @@ const NONE: RangeInclusive<u64> = 0..=0;
 #[derive(Default)]
 struct Recorder {
     simulator: Simulator,
-    script: Vec<(String, String)>,
+    listing: Listing,
 }
 
 impl Recorder {
     fn call(&mut self, call: String) -> String {
         let answer = self.simulator.call(call.as_bytes()).join("\n");
-        self.script.push((call, answer.clone()));
+        self.listing.push((call, answer.clone()));
         answer
     }
 
@@ -63,7 +64,7 @@ fn up_to_seven_gateways_open_and_deliver() {
         // in and out at either end of each tunnel
         let shown = recorder.call("(show)".to_string());
         assert_eq!(shown.lines().count() as u64, 4 * (gateways + 1) + 1, "{gateways} gateways");
-        check(&recorder.script);
+        check(&recorder.listing);
     }
 }
 
@@ -79,7 +80,7 @@ fn eight_gateways_are_too_many() {
     }
     recorder.call("(open 1 10 1)".to_string());
     assert_eq!(recorder.drive_all(), "(lost 6)");
-    check(&recorder.script);
+    check(&recorder.listing);
 }
 
 /// Every session holds as many rows and items as it ever can: eight establishments, and 12 items of data beside the
@@ -104,5 +105,5 @@ fn eight_sessions_at_their_fullest() {
         assert_eq!(recorder.drive(session, NONE), "(delivered 13)");
     }
     recorder.call("(show)".to_string());
-    check(&recorder.script);
+    check(&recorder.listing);
 }

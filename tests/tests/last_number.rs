@@ -2,7 +2,7 @@
 //! the order of refusals.
 
 use simulator_tests::compare::difference;
-use simulator_tests::listing::{script, Script};
+use simulator_tests::listing::{exchanges, Listing};
 use simulator_tests::{lines, program};
 
 const NETWORK: &str = "(node 1 host (has) (needs))\n(node 2 host (has) (needs))\n(node 3 gate (has) (needs))\n\
@@ -20,30 +20,30 @@ fn drive_to(last: u64) -> String {
 
 /// Asserts that the program answers these calls as written after session 1 was driven to this last number, and that its
 /// whole output is the second implementation's.
-fn check_after(last: u64, script: &[(String, String)]) {
-    let calls: String = script.iter().map(|(call, _)| format!("{call}\n")).collect();
+fn check_after(last: u64, listing: &[(String, String)]) {
+    let calls: String = listing.iter().map(|(call, _)| format!("{call}\n")).collect();
     let input = [NETWORK, &drive_to(last), &calls].concat();
     let output = program::run(input.as_bytes());
     assert_eq!(difference(&lines::run(input.as_bytes()), &output), None);
     let output = String::from_utf8(output).expect("the output is text");
-    let expected: String = script.iter().map(|(_, answer)| format!("{answer}\n")).collect();
+    let expected: String = listing.iter().map(|(_, answer)| format!("{answer}\n")).collect();
     let written = &output[output.len() - expected.len()..];
     assert_eq!(difference(expected.as_bytes(), written.as_bytes()), None);
 }
 
 /// Sends that make these numbers.
-fn sends(numbers: std::ops::RangeInclusive<u64>) -> Script {
+fn sends(numbers: std::ops::RangeInclusive<u64>) -> Listing {
     numbers.map(|number| (format!("(send 1 0 {number})"), format!("(made {number})"))).collect()
 }
 
 /// Steps, each of the item this far below the number that it makes.
-fn steps(below: u64, numbers: std::ops::RangeInclusive<u64>) -> Script {
+fn steps_below(below: u64, numbers: std::ops::RangeInclusive<u64>) -> Listing {
     numbers.map(|number| (format!("(step 1 {})", number - below), format!("(made {number})"))).collect()
 }
 
 /// What session 1, in use and spent, answers from its close on; another session goes on.
-fn close_of_spent() -> Script {
-    script(&[
+fn close_of_spent() -> Listing {
+    exchanges(&[
         ("(open 1 1 2)", "(no 6)"),
         ("(close 1)", "(closed)"),
         ("(open 1 1 33)", "(no 2)"),
@@ -64,13 +64,13 @@ fn close_of_spent() -> Script {
 /// At 999,998 a step writes one item; 11, 12 and 13 come before 10.
 #[test]
 fn step_to_999999() {
-    let begin = script(&[
+    let begin = exchanges(&[
         ("(open 1 1 2)", "(made 999973)"),
         ("(step 1 999973)", "(made 999974)"),
         ("(step 1 999974)", "(made 999975 999976)"),
         ("(step 1 999976)", "(made 999977 999978)"),
     ]);
-    let end = script(&[
+    let end = exchanges(&[
         ("(send 1 0 7)", "(no 13)"),
         ("(step 1 999975)", "(no 12)"),
         ("(step 1 999999)", "(no 11)"),
@@ -85,14 +85,14 @@ fn step_to_999999() {
         ("(step 1 999998)", "(no 10)"),
         ("(step 1 999999)", "(no 10)"),
     ]);
-    let calls = [begin, sends(999_979..=999_990), steps(12, 999_991..=999_998), end, close_of_spent()].concat();
+    let calls = [begin, sends(999_979..=999_990), steps_below(12, 999_991..=999_998), end, close_of_spent()].concat();
     check_after(999_972, &calls);
 }
 
 /// At 999,998 a step begins an establishment and writes the last two numbers.
 #[test]
 fn step_to_1000000() {
-    let calls = script(&[
+    let calls = exchanges(&[
         ("(open 1 1 2)", "(made 999997)"),
         ("(step 1 999997)", "(made 999998)"),
         ("(step 1 999998)", "(made 999999 1000000)"),
@@ -110,21 +110,21 @@ fn step_to_1000000() {
 /// At 999,998 a send is accepted; then a step is refused though it would only deliver and write nothing.
 #[test]
 fn send_to_999999() {
-    let begin = script(&[("(open 1 1 2)", "(made 999985)")]);
-    let end = script(&[
+    let begin = exchanges(&[("(open 1 1 2)", "(made 999985)")]);
+    let end = exchanges(&[
         ("(step 1 999990)", "(no 10)"),
         ("(step 1 999999)", "(no 10)"),
         ("(send 1 1 7)", "(no 10)"),
         ("(step 1 999990)", "(no 10)"),
     ]);
-    let received = [sends(999_986..=999_986), steps(1, 999_987..=999_990)].concat();
+    let received = [sends(999_986..=999_986), steps_below(1, 999_987..=999_990)].concat();
     check_after(999_984, &[begin, received, sends(999_991..=999_999), end, close_of_spent()].concat());
 }
 
 /// At 999,998 an open is accepted, and the session it opens can only close.
 #[test]
 fn open_to_999999() {
-    let calls = script(&[
+    let calls = exchanges(&[
         ("(open 1 1 2)", "(made 999997)"),
         ("(send 1 0 7)", "(made 999998)"),
         ("(close 1)", "(closed)"),

@@ -1,16 +1,16 @@
 //! Listings A to I of document 01, on both implementations.
 
 use simulator_tests::compare::check;
-use simulator_tests::listing::{script, steps, Script};
+use simulator_tests::listing::{exchanges, moves, show, steps, Listing};
 use simulator_tests::simulator::Simulator;
 
-fn open(session: u64) -> Script {
-    script(&[(&format!("(open {session} 1 2)"), "(made 1)")])
+fn open(session: u64) -> Listing {
+    exchanges(&[(&format!("(open {session} 1 2)"), "(made 1)")])
 }
 
 /// The network of listing B: A's nodes and route, and the route back.
-fn pair() -> Script {
-    script(&[
+fn pair() -> Listing {
+    exchanges(&[
         ("(node 1 host (has) (needs))", "(ok)"),
         ("(node 2 host (has) (needs))", "(ok)"),
         ("(route 1 2 2)", "(ok)"),
@@ -45,18 +45,18 @@ const SET_UP: [(u64, &str); 23] = [
     (25, "(opened)"),
 ];
 
-fn opened(session: u64) -> Script {
+fn opened(session: u64) -> Listing {
     [open(session), steps(session, &SET_UP)].concat()
 }
 
 /// Session 1 up to and with the responder's grant.
-fn half_open() -> Script {
+fn half_open() -> Listing {
     [open(1), steps(1, &SET_UP[..10])].concat()
 }
 
 /// Data after the responder's grant that reaches node 2 before the initiator's.
-fn early_data() -> Script {
-    let send = script(&[("(send 1 0 77)", "(made 14)")]);
+fn early_data() -> Listing {
+    let send = exchanges(&[("(send 1 0 77)", "(made 14)")]);
     let data = steps(1, &[(14, "(made 15)"), (15, "(made 16)"), (16, "(made 17)"), (17, "(lost 4)")]);
     [send, data].concat()
 }
@@ -110,7 +110,7 @@ fn d_another_sessions_association_does_not_help() {
 #[test]
 fn e_data_from_before_any_row_is_lost() {
     // Items 2 and 3 are the data, so the set-up's numbers after 1 are two higher.
-    let data = script(&[("(send 1 0 77)", "(made 2)"), ("(step 1 2)", "(made 3)")]);
+    let data = exchanges(&[("(send 1 0 77)", "(made 2)"), ("(step 1 2)", "(made 3)")]);
     let mut simulator = Simulator::new();
     let mut calls = [pair(), open(1), data].concat();
     for (call, _) in &calls {
@@ -143,7 +143,7 @@ fn f_the_credential_held_is_granted() {
 
 #[test]
 fn g_a_loop_ends_at_the_hop_limit() {
-    let network = script(&[
+    let network = exchanges(&[
         ("(node 1 host (has) (needs))", "(ok)"),
         ("(node 2 host (has) (needs))", "(ok)"),
         ("(node 3 host (has) (needs))", "(ok)"),
@@ -151,24 +151,17 @@ fn g_a_loop_ends_at_the_hop_limit() {
         ("(route 2 3 1)", "(ok)"),
         ("(open 1 1 3)", "(made 1)"),
     ]);
-    let moves = (1..=32).map(|item| (format!("(step 1 {item})"), format!("(made {})", item + 1))).collect();
-    check(&[network, moves, steps(1, &[(33, "(lost 2)"), (33, "(no 11)")])].concat());
+    check(&[network, moves(1, 1..=32), steps(1, &[(33, "(lost 2)"), (33, "(no 11)")])].concat());
 }
 
 #[test]
 fn h_users_are_counted_over_sessions() {
     let shown = |users: u64| {
-        let lines = ["1 in 2 257", "1 out 2 288", "2 in 1 288", "2 out 1 257"];
-        lines.map(|line| format!("(assoc {line} {users})\n")).concat() + "(end)"
+        show(&["1 in 2 257", "1 out 2 288", "2 in 1 288", "2 out 1 257"].map(|line| format!("{line} {users}")))
     };
-    let end = script(&[
-        ("(show)", &shown(2)),
-        ("(close 1)", "(closed)"),
-        ("(show)", &shown(1)),
-        ("(close 2)", "(closed)"),
-        ("(show)", "(end)"),
-    ]);
-    check(&[pair(), opened(1), opened(2), end].concat());
+    let close = |session: u64| exchanges(&[(&format!("(close {session})"), "(closed)")]);
+    let none: [&str; 0] = [];
+    check(&[pair(), opened(1), opened(2), shown(2), close(1), shown(1), close(2), show(&none)].concat());
 }
 
 #[test]

@@ -72,25 +72,26 @@ fn kind(line: &str) -> String {
     parts.join(" ") + ")"
 }
 
-/// Asserts that the lines of each show rise strictly: by node, then in before out, then by peer. Gives the kind of each
-/// two neighbours: what tells them apart, and what falls all the same. Two shows have `(end)` between.
-fn neighbours<'a>(text: &'a str, place: &'a str) -> impl Iterator<Item = String> + 'a {
-    let pairs = text.lines().zip(text.lines().skip(1));
-    pairs.filter_map(move |(line, next_line)| {
-        let (one, next) = (association(line)?, association(next_line)?);
+/// Asserts that the lines of each show rise strictly: by node, then in before out, then by peer. Gives the kinds of
+/// neighbours: what tells them apart, and what falls between them. Two shows have `(end)` between.
+fn neighbours(text: &str, place: &str) -> BTreeSet<String> {
+    let mut kinds = BTreeSet::new();
+    for (line, next_line) in text.lines().zip(text.lines().skip(1)) {
+        let (Some(one), Some(next)) = (association(line), association(next_line)) else { continue };
         assert!(one < next, "{place}: {line} is shown before {next_line}");
         let apart = match (one.0 == next.0, one.1 == next.1) {
             (false, _) => "another node",
             (true, false) => "in then out",
             (true, true) => "another peer",
         };
-        let though = match (line > next_line, one.2 > next.2) {
+        let falls = match (line > next_line, one.2 > next.2) {
             (true, _) => ", lower as text",
             (false, true) => ", lower peer",
             (false, false) => "",
         };
-        Some(format!("{apart}{though}"))
-    })
+        kinds.insert(format!("{apart}{falls}"));
+    }
+    kinds
 }
 
 /// Node, whether out, and peer of a line of show: by their order, numbers rise as numbers and in comes before out.

@@ -1,7 +1,7 @@
 //! Show's order, on both implementations: by node, then in before out, then by peer. Random lists test it too.
 
 use simulator_tests::compare::{check, difference};
-use simulator_tests::listing::{script, steps, Script};
+use simulator_tests::listing::{exchanges, moves, show, steps, Listing};
 
 /// Hosts 2, 10 and 30 around gateway 9.
 const NETWORK: [(&str, &str); 12] = [
@@ -19,81 +19,44 @@ const NETWORK: [(&str, &str); 12] = [
     ("(route 9 2 2)", "(ok)"),
 ];
 
-/// The steps of a set-up over the gateway, up to each grant and with it: the client's and the gateway's of their
-/// tunnel, then the gateway's and the server's of theirs. Items 3, 6, 23 and 26 are the waits.
-const TO_GRANTS: [&[(u64, &str)]; 4] = [
-    &[
-        (1, "(made 2)"),
-        (2, "(made 3 4)"),
-        (4, "(made 5 6)"),
-        (5, "(made 7)"),
-        (7, "(made 8)"),
-        (8, "(made 9)"),
-        (9, "(made 10)"),
-        (10, "(made 11)"),
-        (11, "(made 12)"),
-        (12, "(made 13)"),
-    ],
-    &[
-        (13, "(made 14)"),
-        (14, "(made 15)"),
-        (15, "(made 16)"),
-        (16, "(made 17)"),
-        (17, "(made 18)"),
-        (18, "(made 19)"),
-        (19, "(made 20)"),
-    ],
-    &[
-        (20, "(made 21)"),
-        (21, "(made 22)"),
-        (22, "(made 23 24)"),
-        (24, "(made 25 26)"),
-        (25, "(made 27)"),
-        (27, "(made 28)"),
-        (28, "(made 29)"),
-        (29, "(made 30)"),
-        (30, "(made 31)"),
-        (31, "(made 32)"),
-        (32, "(made 33)"),
-    ],
-    &[
-        (33, "(made 34)"),
-        (34, "(made 35)"),
-        (35, "(made 36)"),
-        (36, "(made 37)"),
-        (37, "(made 38)"),
-        (38, "(made 39)"),
-        (39, "(made 40)"),
-    ],
-];
-
-/// A show that gives these associations.
-fn show(associations: &[&str]) -> Script {
-    let lines: String = associations.iter().map(|association| format!("(assoc {association})\n")).collect();
-    script(&[("(show)", &(lines + "(end)"))])
+/// The steps of a set-up over the gateway, to each grant and with it: 0 is the client's and 1 the gateway's of their
+/// tunnel, 2 the gateway's and 3 the server's of theirs. Items 3, 6, 23 and 26 are the waits.
+fn to_grant(session: u64, grant: usize) -> Listing {
+    match grant {
+        0 => {
+            let begin = steps(session, &[(1, "(made 2)"), (2, "(made 3 4)"), (4, "(made 5 6)"), (5, "(made 7)")]);
+            [begin, moves(session, 7..=12)].concat()
+        }
+        1 => moves(session, 13..=19),
+        2 => {
+            let begin = steps(session, &[(22, "(made 23 24)"), (24, "(made 25 26)"), (25, "(made 27)")]);
+            [moves(session, 20..=21), begin, moves(session, 27..=32)].concat()
+        }
+        _ => moves(session, 33..=39),
+    }
 }
 
 /// Session 1 goes from 30 by 9 to 10, with a show after each grant. A grant adds its out row before its in row, and
 /// what it adds is shown before older associations or between them.
-fn first_session() -> Script {
+fn first_session() -> Listing {
     let (at_30, at_10) = (["30 in 9 1192 1", "30 out 9 541 1"], ["10 in 9 552 1", "10 out 9 521 1"]);
     let at_9 = ["9 in 10 521 1", "9 in 30 541 1", "9 out 10 552 1", "9 out 30 1192 1"];
     [
-        script(&[("(open 1 30 10)", "(made 1)")]),
-        steps(1, TO_GRANTS[0]),
+        exchanges(&[("(open 1 30 10)", "(made 1)")]),
+        to_grant(1, 0),
         show(&at_30),
-        steps(1, TO_GRANTS[1]),
+        to_grant(1, 1),
         show(&[&["9 in 30 541 1", "9 out 30 1192 1"], &at_30[..]].concat()),
-        steps(1, TO_GRANTS[2]),
+        to_grant(1, 2),
         show(&[&at_9, &at_30[..]].concat()),
-        steps(1, TO_GRANTS[3]),
+        to_grant(1, 3),
         show(&[&at_9, &at_10[..], &at_30].concat()),
     ]
     .concat()
 }
 
 /// Session 2 goes from 10 by 9 to 2 and shares the tunnel of 9 and 10; then session 1 closes.
-fn second_session() -> Script {
+fn second_session() -> Listing {
     let both = [
         "2 in 9 296 1",
         "2 out 9 513 1",
@@ -118,14 +81,15 @@ fn second_session() -> Script {
         "10 in 9 552 1",
         "10 out 9 521 1",
     ];
-    let (open, close) = (script(&[("(open 2 10 2)", "(made 1)")]), script(&[("(close 1)", "(closed)")]));
-    [open, steps(2, &TO_GRANTS.concat()), show(&both), close, show(&second)].concat()
+    let (open, close) = (exchanges(&[("(open 2 10 2)", "(made 1)")]), exchanges(&[("(close 1)", "(closed)")]));
+    let set_up = (0..4).flat_map(|grant| to_grant(2, grant)).collect();
+    [open, set_up, show(&both), close, show(&second)].concat()
 }
 
 /// Both sessions set up the higher nodes and peers first; as text the nodes would be 10, 2, 30, 9.
 #[test]
 fn by_node_then_in_before_out_then_by_peer() {
-    check(&[script(&NETWORK), first_session(), second_session()].concat());
+    check(&[exchanges(&NETWORK), first_session(), second_session()].concat());
 }
 
 /// What the other tests compare by tells two orders apart, and names the first line that differs.
