@@ -32,6 +32,10 @@ clash z = absurd (omega arith)
 pub never : {A : Type 0} → false ≡ true → A
 never e = clash cc
 
+pub not-so : (b : Bool) → (b ≡ true → ⊥) → b ≡ false
+not-so true h = absurd (h refl)
+not-so false h = refl
+
 -- both sides of a conjunction
 pub both : (a b : Bool) → (a && b) ≡ true → (a ≡ true) × (b ≡ true)
 both true b e = (refl, e)

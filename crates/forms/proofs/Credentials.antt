@@ -6,7 +6,7 @@ use Prim.Native.Nat.{ℕ, suc, _+_, _-_, _*_, _≤_, _<_}
 use native.Mathlib.Omega.{arith}
 use lib.Dec.{ltb}
 use borrow.Author.Tests.{ltb-true, ltb-false}
-use lib.ListN.{length, replicate, set, length-append}
+use lib.ListN.{length, replicate, length-append}
 use lib.Seq.{append-snoc, set-append-seam}
 use Rattle.calculus.specs.Table.{entriesFrom, onlyIf}
 use Rattle.calculus.proofs.Table.{perhaps}

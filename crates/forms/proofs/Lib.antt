@@ -16,5 +16,5 @@ pub mod Credentials
 pub mod Joined
 pub mod FormLines
 pub mod LineWidths
-pub mod NetworkForms
+pub mod ReadAgain
 pub mod Cases

@@ -4,7 +4,6 @@ use crate::scan::byte_at;
 use crate::scan::read_number;
 ghost use mathlib.Core.Path.{_≡_};
 ghost use lib.ListN.{drop};
-ghost use Rattle.forms.specs.Read as spec;
 ghost use Rattle.forms.specs.Held as held;
 
 // What a list goes on with: a number behind a space, or its bracket; and the place behind it.

@@ -11,7 +11,7 @@ use Rattle.model.specs.State.{blankSlot, blankRow, blankSession, fresh, 
 use Rattle.model.specs.Noninterference.{rowsNaming}
 use Rattle.model.proofs.Parts.{part-length, Numbered}
 use Rattle.model.proofs.Roomy.{emptied}
-use Rattle.model.proofs.Users.{place-below}
+use Rattle.model.proofs.Places.{place-below}
 use Rattle.model.proofs.Counted.{Good}
 
 part-blank : {A : Type 0} (x : A) (b n m : ℕ) → b + n ≤ m → take n (drop b (replicate m x)) ≡ replicate n x

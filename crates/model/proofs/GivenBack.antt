@@ -18,7 +18,7 @@ use Rattle.forms.proofs.Decimal.{width-most}
 use Rattle.forms.proofs.FormLines.{lines-forms}
 use Rattle.forms.proofs.Joined.{lines-append}
 use Rattle.forms.proofs.LineWidths.{node-width, route-width}
-use Rattle.forms.proofs.NetworkForms.{net-read}
+use Rattle.forms.proofs.ReadAgain.{net-read}
 use Rattle.model.specs.Lists.{All}
 use Rattle.model.specs.NetworkText.{nodeForm, routeForm, networkForms, networkLines, networkText}
 use Rattle.model.specs.State.{fresh}

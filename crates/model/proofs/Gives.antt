@@ -16,7 +16,7 @@ use Rattle.calculus.specs.declared.state.State.{State}
 use Rattle.forms.specs.Request.{nodeOf}
 use Rattle.forms.specs.Text.{Form, route, text}
 use Rattle.forms.proofs.Credentials.{credentials-rising, credentials-same}
-use Rattle.forms.proofs.NetworkForms.{node-read, route-read}
+use Rattle.forms.proofs.ReadAgain.{node-read, route-read}
 use Rattle.model.specs.Lists.{All}
 use Rattle.model.specs.Network.{given, nextHop}
 use Rattle.model.specs.Requests.{checked, withNode, withRoute, nodeTurn, routeTurn, nodesGiven, leadsBack, isFound}

@@ -4,6 +4,7 @@ pub mod Lists
 pub mod Tables
 pub mod Rising
 pub mod Parts
+pub mod Places
 pub mod Users
 pub mod Weights
 pub mod Moves
@@ -27,6 +28,7 @@ pub mod Noninterference
 pub mod SetUp
 pub mod Refusals
 pub mod ShowLines
+pub mod Alike
 pub mod Show
 pub mod Ordered
 pub mod Gives

@@ -8,10 +8,6 @@ use Rattle.model.specs.Lists.{All}
 use lib.Seq.{sets, sets-eq, take-at, length-take-le}
 
 module _ {A : Type 0} (P : A → Type 0) where
-  pub all-of : ((x : A) → P x) → (l : List A) → All P l
-  all-of h [] = tt
-  all-of h (x ∷ l) = (h x, all-of h l)
-
   pub all-set : (l : List A) (i : ℕ) (x : A) → All P l → P x → All P (set l i x)
   all-set [] i x h k = tt
   all-set (y ∷ l) zero x h k = (k, h .1)
@@ -47,11 +43,6 @@ module _ {A : Type 0} (P : A → Type 0) where
   all-take zero l h = tt
   all-take (suc n) [] h = tt
   all-take (suc n) (y ∷ l) h = (h .0, all-take n l (h .1))
-
-  pub all-drop : (n : ℕ) (l : List A) → All P l → All P (drop n l)
-  all-drop zero l h = h
-  all-drop (suc n) [] h = tt
-  all-drop (suc n) (y ∷ l) h = all-drop n l (h .1)
 
   pub all-replicate : (n : ℕ) (x : A) → P x → All P (replicate n x)
   all-replicate zero x k = tt

@@ -36,7 +36,7 @@ use Rattle.model.specs.State.{addedRows}
 use Rattle.model.specs.SetUp.{isDisc}
 use Rattle.model.specs.Lists.{fold, All}
 use Rattle.model.specs.GivenBack.{Consistent}
-use Rattle.model.proofs.Users.{are-nodes}
+use Rattle.model.proofs.Places.{are-nodes}
 use Rattle.model.proofs.Nodes.{Node, LeadsToNode, routed}
 
 -- ---- what an item may name, v being the server

@@ -16,7 +16,7 @@ use Rattle.model.specs.Calls.{Call, call, after, givesNetwork}
 use Rattle.model.specs.Noninterference.{viewOf, Noninterferes, Noninterference}
 use Rattle.model.proofs.Parts.{Numbered}
 use Rattle.model.proofs.Asked.{not-own}
-use Rattle.model.proofs.Users.{same-itself, are-nodes}
+use Rattle.model.proofs.Places.{same-itself, are-nodes}
 use Rattle.model.proofs.Counted.{Good, users-least}
 use Rattle.model.proofs.Replies.{numbered, call-good, call-others}
 use Rattle.model.proofs.Named.{RowNamed}

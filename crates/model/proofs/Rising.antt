@@ -10,7 +10,7 @@ use Rattle.calculus.specs.Table.{entriesFrom, onlyIf}
 use Rattle.calculus.proofs.Table.{perhaps}
 use Rattle.calculus.proofs.Tests.{Way, is, isnt, way, never}
 use Rattle.model.specs.Lists.{All, before, Rising}
-use Rattle.model.proofs.Lists.{all-of, all-append}
+use Rattle.model.proofs.Lists.{all-append}
 use Rattle.model.proofs.Tables.{only-all, entries-all}
 
 -- ---- two keys
@@ -87,10 +87,6 @@ module _ {A : Type 0} (key : A → List ℕ) where
   rising-entries b f up k [] = tt
   rising-entries b f up k (x ∷ l) =
       let more = rising-entries b f up (k + 1) l in
-      perhaps (Rising key) (b x)
-      (λ e. (
-        entries-all (Before (f k x)) (λ y. Unit) (λ i y. onlyIf (b y) (f i y)) (k + 1) l (all-of _ (λ y. tt) l)
-            (λ j y i w u. only-all (Before (f k x)) (b y) (λ e. up k j x y (omega arith))),
-        more,
-      ))
-      (λ e. more)
+      let behind = entries-all (Before (f k x)) (λ i y. onlyIf (b y) (f i y)) (k + 1) l
+      (λ j y i w. only-all (Before (f k x)) (b y) (λ e. up k j x y (omega arith))) in
+      perhaps (Rising key) (b x) (λ e. (behind, more)) (λ e. more)

@@ -7,7 +7,6 @@ use lib.Dec.{ltb}
 use lib.ListN.{length, take, length-take, length-append}
 use Rattle.calculus.specs.Number.{isNode, spi}
 use Rattle.calculus.proofs.Tests.{either}
-use Rattle.calculus.specs.declared.answer.ShownAssociation.{ShownAssociation}
 use Rattle.forms.specs.Bytes.{joined}
 use Rattle.forms.specs.Answer.{associationLine, endLine}
 use Rattle.forms.proofs.Decimal.{width-most}
@@ -15,8 +14,8 @@ use Rattle.forms.proofs.LineWidths.{association-width}
 use Rattle.forms.proofs.Joined.{joined-append}
 use Rattle.model.specs.Lists.{All}
 use Rattle.model.specs.Row.{placeOut, placeNode, placePeer, spiOf}
-use Rattle.model.specs.Requests.{associationAt, shown, shownLines}
-use Rattle.model.proofs.Users.{node-bounds}
+use Rattle.model.specs.Requests.{shownWith, associationAt, shown, shownLines}
+use Rattle.model.proofs.Places.{node-bounds}
 use Rattle.model.proofs.Lists.{all-take}
 use Rattle.model.proofs.Tables.{only-width, entries-width}
 
@@ -27,9 +26,6 @@ spi-most a b =
 spi-of-most : (out : Bool) (a q : ℕ) → spiOf out a q .0 ≤ 1279
 spi-of-most true a q = spi-most q a
 spi-of-most false a q = spi-most a q
-
-abbrev pub shownWith : Bool → ℕ → ℕ → ℕ → ShownAssociation
-shownWith out a q n = record { node = a; out = out; peer = q; spi = spiOf out a q; users = n }
 
 -- the longest: "(assoc 32 out 32 1279 65535)" and its newline
 line-width : (out : Bool) (a q n : ℕ) → a ≤ 32 → q ≤ 32 → n ≤ 65535 → length (associationLine (shownWith out a q n)) ≤ 29

@@ -16,16 +16,16 @@ pub only-all : {A : Type 0} (P : A → Type 0) (b : Bool) {x : A} → (b ≡ tru
 only-all P true h = (h refl, tt)
 only-all P false h = tt
 
--- of each entry that f makes, where Q holds of the table's entries
-pub entries-all : {A B : Type 0} (P : B → Type 0) (Q : A → Type 0) (f : ℕ → A → List B) (k : ℕ) (l : List A) → All Q l
-    → ((j : ℕ) (x : A) → k ≤ j → j < k + length l → Q x → All P (f j x)) → All P (entriesFrom f k l)
+-- of all that the entries give
+pub entries-all : {A B : Type 0} (P : B → Type 0) (f : ℕ → A → List B) (k : ℕ) (l : List A)
+    → ((j : ℕ) (x : A) → k ≤ j → j < k + length l → All P (f j x)) → All P (entriesFrom f k l)
 unfolding entriesFrom
-entries-all P Q f k [] h each = tt
-entries-all P Q f k (x ∷ l) h each =
-    all-append P (f k x) (entriesFrom f (k + 1) l) (each k x (omega arith) (omega arith) (h .0))
-    (entries-all P Q f (k + 1) l (h .1) (λ j y i e. each j y (omega arith) (omega arith)))
+entries-all P f k [] each = tt
+entries-all P f k (x ∷ l) each =
+    all-append P (f k x) (entriesFrom f (k + 1) l) (each k x (omega arith) (omega arith))
+    (entries-all P f (k + 1) l (λ j y i e. each j y (omega arith) (omega arith)))
 
--- how long their lines are, where those of one entry have at most `most` bytes
+-- how long their lines are, where Q holds of the table's entries, and the lines of one have at most `most` bytes
 pub entries-width : {A B : Type 0} (line : B → List ℕ) (most : ℕ) (Q : A → Type 0) (f : ℕ → A → List B) (k : ℕ) (l : List A) → All Q l
     → ((j : ℕ) (x : A) → k ≤ j → j < k + length l → Q x → length (joined (map line (f j x))) ≤ most)
     → length (joined (map line (entriesFrom f k l))) ≤ most * length l

@@ -38,7 +38,7 @@ pub record Consistent (n : Network) : Type 0 where
 
 -- ---- the text's order
 
--- nodes come first, by number; then routes, by at, then by destination. No other form gives a network
+-- nodes come first, by number; then routes, by at, then by destination. The text has no other form
 abbrev pub formKey : Form → List ℕ
 formKey (node a k has needs) = 0 ∷ a ∷ []
 formKey (route a b next) = 1 ∷ a ∷ b ∷ []

@@ -316,7 +316,7 @@ networkGivenBack =
     ∷ "(step 1 2)" ⇒ "(made 3 4)" ∷ "(node 4 host (has) (needs))" ⇒ "(no 5)"
     ∷ []
 
--- #102: whichever came first, node 2 is shown before node 10, the peer 2 before the peer 10, and in before out
+-- #102: though node 10 came first, node 2 is shown before it, the peer 2 before the peer 10, and in before out
 abbrev pub shownInOrder : Listing
 shownInOrder =
     pair

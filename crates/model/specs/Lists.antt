@@ -1,4 +1,4 @@
--- Walks over lists, and their order. Assumes nothing.
+-- Walks over lists, and lists in order. Assumes nothing.
 use Prim.Native.Nat.{ℕ, zero, suc, _+_}
 use mathlib.Core.Path.{_≡_}
 use mathlib.Core.Bool.{Bool, true, false, cond, _&&_, _||_}

@@ -232,11 +232,15 @@ inSession s u f = performed s u (f (load s u))
 
 -- ---- show
 
--- In(a, q), or Out(a, q), with its n users, if it stands
-abbrev pub association : Bool → ℕ → ℕ → ℕ → List ShownAssociation
-association out a q n = onlyIf (ltb 0 n) (record { node = a; out = out; peer = q; spi = spiOf out a q; users = n })
+-- In(a, q), or Out(a, q), with its n users
+abbrev pub shownWith : Bool → ℕ → ℕ → ℕ → ShownAssociation
+shownWith out a q n = record { node = a; out = out; peer = q; spi = spiOf out a q; users = n }
 
--- the one whose n users stand at place p of their table
+-- if it stands
+abbrev pub association : Bool → ℕ → ℕ → ℕ → List ShownAssociation
+association out a q n = onlyIf (ltb 0 n) (shownWith out a q n)
+
+-- the one whose n users are at place p of their table, if it stands
 abbrev pub associationAt : ℕ → ℕ → List ShownAssociation
 associationAt p n = association (placeOut p) (placeNode p) (placePeer p) n
 

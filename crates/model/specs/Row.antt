@@ -60,9 +60,13 @@ newest rows out a p = fold (newer out a p) Untunnelled rows
 
 -- ---- the association that a row names
 
+-- one association, told twice: whether it is an Out, its node, its peer
+abbrev pub sameAssociation : Bool → ℕ → ℕ → Bool → ℕ → ℕ → Bool
+sameAssociation o b s out a q = sameWay o out && (eqb b a && eqb s q)
+
 -- "A row at a with peer q names In(a, q) or Out(a, q), by its direction."
 abbrev pub names : Bool → ℕ → ℕ → Row → Bool
-names out a q r = sameWay (r .out) out && (eqb (r .node) a && eqb (r .peer) q)
+names out a q r = sameAssociation (r .out) (r .node) (r .peer) out a q
 
 -- the SPI of In(a, q), or of Out(a, q)
 abbrev pub spiOf : Bool → ℕ → ℕ → Spi
@@ -83,7 +87,7 @@ admits rows a q = ltb 0 (howMany false a q rows)
 abbrev pub usersPlace : Bool → ℕ → ℕ → ℕ
 usersPlace out a q = 64 * (a - 1) + cond out 32 0 + (q - 1)
 
--- the association whose users stand at place p: whether it is an Out, its node, its peer
+-- the association whose users are at place p, below 2,048: whether it is an Out, its node, its peer
 abbrev pub placeOut : ℕ → Bool
 placeOut p = leb 32 (p % 64)
 

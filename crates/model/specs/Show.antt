@@ -1,29 +1,29 @@
 -- Show: one line for each standing association, no other, in a set order (document 02, #102). Proved in proofs/Show. Assumes nothing.
 use Prim.Native.Nat.{ℕ, _≤_}
 use mathlib.Core.Path.{_≡_}
-use mathlib.Core.Bool.{Bool, cond, _&&_}
+use mathlib.Core.Bool.{Bool, cond}
 use mathlib.Core.List.{List, [], _∷_}
-use lib.Dec.{ltb, eqb}
+use lib.Dec.{ltb}
 use lib.ListN.{length}
 use Rattle.calculus.specs.declared.answer.ShownAssociation.{ShownAssociation}
 use Rattle.calculus.specs.declared.state.State.{State}
 use Rattle.forms.specs.Bytes.{joined}
 use Rattle.forms.specs.Text.{show, text}
 use Rattle.model.specs.Lists.{All, Rising}
-use Rattle.model.specs.Row.{sameWay, usersOf}
+use Rattle.model.specs.Row.{sameAssociation, usersOf}
 use Rattle.model.specs.Requests.{association, shown, shownLines}
 use Rattle.model.specs.Calls.{reported, short, answered}
 
 -- x is In(a, q), or Out(a, q)
 abbrev pub isFor : Bool → ℕ → ℕ → ShownAssociation → Bool
-isFor out a q x = sameWay (x .out) out && (eqb (x .node) a && eqb (x .peer) q)
+isFor out a q x = sameAssociation (x .out) (x .node) (x .peer) out a q
 
 -- the ones of m that are
 abbrev pub allFor : Bool → ℕ → ℕ → List ShownAssociation → List ShownAssociation
 allFor out a q [] = []
 allFor out a q (x ∷ m) = cond (isFor out a q x) (x ∷ allFor out a q m) (allFor out a q m)
 
--- m has one for each association that stands by the table of users l, and no other: of every two numbers
+-- whatever a and q are, m has In(a, q), or Out(a, q), once, with its users, where it stands by the table of users l, and else not
 abbrev pub OneForEach : List ℕ → List ShownAssociation → Type 0
 OneForEach l m = (out : Bool) (a q : ℕ) → allFor out a q m ≡ association out a q (usersOf l out a q)
 
@@ -39,7 +39,7 @@ pub record Show : Type 0 where
   pub once : (l : List ℕ) → OneForEach l (shown l)
   -- "Show now goes by node, then in before out, then by peer."
   pub ordered : (l : List ℕ) → Rising associationKey (shown l)
-  -- these two leave no choice: no other associations and no other order are so
+  -- these two leave no choice: no other list has both
   pub fixed : (l : List ℕ) (m : List ShownAssociation) → OneForEach l m → Rising associationKey m → m ≡ shown l
   -- the lines fit into the lent output of 65,536 bytes
   pub fits : (l : List ℕ) → All (λ n. n ≤ 65535) l → length (joined (shownLines l)) ≤ 65536

@@ -17,7 +17,7 @@ use Rattle.answers.proofs.Sets.{put-none, put-append}
 use Rattle.answers.proofs.Writes.{put-writes}
 use Rattle.reports.specs.Puts.{Puts}
 
-pub puts-none : {most : ℕ} {l : List ℕ} {at : ℕ} → Puts most l at [] l at
+puts-none : {most : ℕ} {l : List ℕ} {at : ℕ} → Puts most l at [] l at
 puts-none = record { put = put-none; few = omega arith }
 
 -- what was written, there being room

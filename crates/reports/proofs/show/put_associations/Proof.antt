@@ -1,11 +1,11 @@
 -- `show::put_associations` meets its contract. The loop's invariant: the lines of the first i places are put. Assumes nothing.
+use mathlib.Core.Path.{_≡_}
 use Prim.Native.Nat.{_-_}
 use native.Mathlib.Omega.{arith}
 use borrow.Author.Needs.{needs}
-use lib.Seq.{take-all}
 use Rattle.forms.specs.Answer.{associationLine}
 use Rattle.model.specs.Requests.{associationAt, shown}
-use Rattle.reports.proofs.Puts.{Firsts, firsts-none, firsts-more, firsts-all, puts-few, puts-size}
+use Rattle.reports.proofs.Puts.{Firsts, firsts-none, firsts-more, puts-size}
 use Rattle.reports.proofs.show.put_associations.Statement.{statement}
 use Rattle.reports.proofs.show.put_associations.Tie as tie
 
@@ -34,9 +34,9 @@ same-length c = puts-size (c .before .loop .inv .puts)
 returns : tie.Need-returns Inv-loop μ-loop
 unfolding shown
 returns c =
-    let users = c .before .before .before .before .args .users .now in
-    let x = firsts-all (search needs) (c .before .loop .inv) in
-    rw (take-all 2048 users (search needs)) (puts-few x (omega (arith, x .few, c .before .loop .inv .inside)))
+    let x = c .before .loop .inv in
+    let e : c .before .loop .i ≡ 2048 = omega (arith, x .inside) in
+    rw e at (x .puts)
 
 pub put-associations-spec : {M : Type 1} → statement M
 put-associations-spec =
