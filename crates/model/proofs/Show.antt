@@ -17,7 +17,7 @@ use Rattle.forms.specs.Text.{text}
 use Rattle.forms.proofs.ReadAgain.{show-read}
 use Rattle.model.specs.Lists.{Rising}
 use Rattle.model.specs.Row.{sameAssociation, usersPlace, placeOut, placeNode, placePeer, areNodes, usersOf}
-use Rattle.model.specs.Requests.{shownWith, association, associationAt, shown, shownLines}
+use Rattle.model.specs.Requests.{shownAs, association, associationAt, shown, shownLines}
 use Rattle.model.specs.Calls.{reported, short, answered, requested}
 use Rattle.model.specs.Show.{allFor, OneForEach, associationKey, Show}
 use Rattle.model.proofs.Tables.{only-all, entries-all}
@@ -29,7 +29,7 @@ use Rattle.model.proofs.Alike.{Other, all-other, rising-alike}
 -- ---- in order
 
 abbrev shownAt : ℕ → ℕ → ShownAssociation
-shownAt p n = shownWith (placeOut p) (placeNode p) (placePeer p) n
+shownAt p n = shownAs (placeOut p) (placeNode p) (placePeer p) n
 
 places-rise : (i j x y : ℕ) → i < j → Before associationKey (shownAt i x) (shownAt j y)
 places-rise i j x y h =
@@ -65,8 +65,8 @@ module _ (out : Bool) (a q : ℕ) where
       → allFor out a q (association out a q n ++ rest) ≡ association out a q n
   own-first n rest h = go (ltb 0 n)
     where
-      go : (b : Bool) → allFor out a q (onlyIf b (shownWith out a q n) ++ rest) ≡ onlyIf b (shownWith out a q n)
-      go true = rw (same-itself out a q) (ap (λ (m : List ShownAssociation). shownWith out a q n ∷ m) h)
+      go : (b : Bool) → allFor out a q (onlyIf b (shownAs out a q n) ++ rest) ≡ onlyIf b (shownAs out a q n)
+      go true = rw (same-itself out a q) (ap (λ (m : List ShownAssociation). shownAs out a q n ∷ m) h)
       go false = h
 
   other-first : (p n : ℕ) (rest : List ShownAssociation) → isAt p ≡ false → allFor out a q (associationAt p n ++ rest) ≡ allFor out a q rest

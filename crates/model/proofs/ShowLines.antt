@@ -14,7 +14,7 @@ use Rattle.forms.proofs.LineWidths.{association-width}
 use Rattle.forms.proofs.Joined.{joined-append}
 use Rattle.model.specs.Lists.{All}
 use Rattle.model.specs.Row.{placeOut, placeNode, placePeer, spiOf}
-use Rattle.model.specs.Requests.{shownWith, associationAt, shown, shownLines}
+use Rattle.model.specs.Requests.{shownAs, associationAt, shown, shownLines}
 use Rattle.model.proofs.Places.{node-bounds}
 use Rattle.model.proofs.Lists.{all-take}
 use Rattle.model.proofs.Tables.{only-width, entries-width}
@@ -28,11 +28,11 @@ spi-of-most true a q = spi-most q a
 spi-of-most false a q = spi-most a q
 
 -- the longest: "(assoc 32 out 32 1279 65535)" and its newline
-line-width : (out : Bool) (a q n : ℕ) → a ≤ 32 → q ≤ 32 → n ≤ 65535 → length (associationLine (shownWith out a q n)) ≤ 29
+line-width : (out : Bool) (a q n : ℕ) → a ≤ 32 → q ≤ 32 → n ≤ 65535 → length (associationLine (shownAs out a q n)) ≤ 29
 line-width out a q n ha hq hn =
     omega (
       arith,
-      association-width (shownWith out a q n),
+      association-width (shownAs out a q n),
       width-most 1 a (omega arith),
       width-most 1 q (omega arith),
       width-most 3 (spiOf out a q .0) (omega (arith, spi-of-most out a q)),

@@ -232,13 +232,13 @@ inSession s u f = performed s u (f (load s u))
 
 -- ---- show
 
--- In(a, q), or Out(a, q), with its n users
-abbrev pub shownWith : Bool → ℕ → ℕ → ℕ → ShownAssociation
-shownWith out a q n = record { node = a; out = out; peer = q; spi = spiOf out a q; users = n }
+-- In(a, q), or Out(a, q), as show has it, with its n users
+abbrev pub shownAs : Bool → ℕ → ℕ → ℕ → ShownAssociation
+shownAs out a q n = record { node = a; out = out; peer = q; spi = spiOf out a q; users = n }
 
--- if it stands
+-- the same, if it stands
 abbrev pub association : Bool → ℕ → ℕ → ℕ → List ShownAssociation
-association out a q n = onlyIf (ltb 0 n) (shownWith out a q n)
+association out a q n = onlyIf (ltb 0 n) (shownAs out a q n)
 
 -- the one whose n users are at place p of their table, if it stands
 abbrev pub associationAt : ℕ → ℕ → List ShownAssociation
