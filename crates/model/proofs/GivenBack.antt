@@ -90,8 +90,7 @@ module _ (n : Network) (h : Consistent n) where
 -- ---- the promise
 
 net-written : (s : State) (size : ℕ)
-    → answered s (text net) size
-    ≡ cond (ltb size 65536) (short s) (reported s (networkLines (s .network)))
+    → answered s (text net) size ≡ cond (ltb size 65536) (short s) (reported s (networkLines (s .network)))
 unfolding answered requested
 net-written s size = rw net-read
 

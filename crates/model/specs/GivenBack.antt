@@ -62,8 +62,7 @@ AnsweredOk r = r .lines ≡ answer Ok
 pub record GivenBack : Type 0 where
   -- "(net) writes it", at any time, and changes nothing; of a line that is `(net)` refusal 0 is the only one
   pub written : (s : State) (size : ℕ)
-      → answered s (text net) size
-      ≡ cond (ltb size 65536) (short s) (reported s (networkLines (s .network)))
+      → answered s (text net) size ≡ cond (ltb size 65536) (short s) (reported s (networkLines (s .network)))
   -- "nodes rising, then routes by at, then by destination"
   pub ordered : (n : Network) → Rising formKey (networkForms n)
   -- whatever is called of a fresh state, the network is consistent

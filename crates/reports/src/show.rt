@@ -24,7 +24,7 @@ fn spi_of(outward: bool, a: u8, q: u8) -> Spi
     Spi::between(a, q)
 }
 
-// The line of the association whose n users stand at place p, if it stands.
+// The line of the association whose n users are at place p, if it stands.
 fn put_association(out: &mut [u8], at: usize, p: usize, n: u16) -> usize
     requires { ⌜ (p < 2048) × (at + 32 ≤ length (now out)) ⌝ }
     ensures { λ r. ⌜ Puts 29 (now (out .entry)) at (joined (map associationLine (spec.associationAt p n))) (now (out .exit)) r ⌝ }
