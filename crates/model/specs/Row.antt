@@ -60,7 +60,7 @@ newest rows out a p = fold (newer out a p) Untunnelled rows
 
 -- ---- the association that a row names
 
--- one association, told twice: whether it is an Out, its node, its peer
+-- two associations are the same: both Out or both In, of one node, with one peer
 abbrev pub sameAssociation : Bool → ℕ → ℕ → Bool → ℕ → ℕ → Bool
 sameAssociation o b s out a q = sameWay o out && (eqb b a && eqb s q)
 
