@@ -1,13 +1,13 @@
--- The forms of a network's text are read again, and so are those that ask for a report. Assumes nothing.
+-- The forms of a network's text are read again, and so are a step's and those that ask for a report. Assumes nothing.
 use mathlib.Core.Path.{_≡_, refl}
 use mathlib.Core.Bool.{Bool}
 use mathlib.Core.List.{List}
 use mathlib.Core.Option.{some}
 use Prim.Native.Nat.{ℕ, _≤_}
 use native.Mathlib.Omega.{arith}
-use lib.ListN.{length}
+use lib.ListN.{length, length-append}
 use Rattle.calculus.specs.declared.network.Kind.{Kind}
-use Rattle.forms.specs.Text.{route, show, net, listText, text}
+use Rattle.forms.specs.Text.{route, step, show, net, listText, text}
 use Rattle.forms.specs.Request.{credentialsFrom, nodeOf}
 use Rattle.forms.specs.Read.{read}
 use Rattle.forms.proofs.Decimal.{width-most}
@@ -40,6 +40,13 @@ route-read a b next h g j =
     let w = route-width a b next in
     reads-exactly .exact (text (route a b next)) (route a b next) .1
     (record { written = refl; short = omega arith; digits = (omega arith, (omega arith, (omega arith, tt))) })
+
+pub step-read : (u k : ℕ) → u ≤ 8 → k ≤ 1000000 → read (text (step u k)) ≡ some (step u k)
+unfolding text listText
+step-read u k h g =
+    let d = width-most 9 u (omega arith) in
+    let e = width-most 9 k (omega arith) in
+    reads-exactly .exact (text (step u k)) (step u k) .1 (record { written = refl; short = simp length-append (omega arith); digits = (d, (e, tt)) })
 
 pub net-read : read (text net) ≡ some net
 unfolding text listText

@@ -1,5 +1,5 @@
 -- A choice by tests: what holds of each way holds of the choice. Assumes nothing.
-use mathlib.Core.Path.{_≡_}
+use mathlib.Core.Path.{_≡_, refl}
 use mathlib.Core.Bool.{Bool, true, false, cond}
 use mathlib.Core.List.{List, [], _∷_}
 use Prim.Native.Nat.{ℕ, _≤_}
@@ -29,6 +29,12 @@ pub checked-either : {A : Type 0} (P : A → Type 0) (refuse : Refusal → A) �
 unfolding checked
 checked-either P refuse h [] k = k tt
 checked-either P refuse h (c ∷ cs) k = either P (c .0) (λ e. h (c .1)) (λ e. checked-either P refuse h cs (λ p. k (e, p)))
+
+-- where no test holds it is x
+pub checked-passed : {A : Type 0} (refuse : Refusal → A) (cs : List Check) (x : A) → Passed cs → checked refuse cs x ≡ x
+unfolding checked
+checked-passed refuse [] x p = refl
+checked-passed refuse (c ∷ cs) x p = rw (p .0) (checked-passed refuse cs x (p .1))
 
 -- a refusal but number 0
 abbrev pub IsWritten : Refusal → Type 0

@@ -1,10 +1,12 @@
--- What holds of every element of a list, and the front of a list after a run of stores. Assumes nothing.
+-- What holds of every element of a list, where one is found, and the front of a list after a run of stores. Assumes nothing.
 use mathlib.Core.Path.{_≡_, ap, _∙_}
+use mathlib.Core.Bool.{Bool, true, false, cond}
 use mathlib.Core.List.{List, [], _∷_, _++_}
 use Prim.Native.Nat.{ℕ, zero, suc, _+_, _≤_, _<_}
 use native.Mathlib.Omega.{arith}
 use lib.ListN.{length, getD, set, take, drop, replicate, length-append}
-use Rattle.model.specs.Lists.{All}
+use Rattle.model.specs.Lists.{place, tally, All}
+use Rattle.model.proofs.Checks.{one}
 use lib.Seq.{sets, sets-eq, take-at, length-take-le}
 
 module _ {A : Type 0} (P : A → Type 0) where
@@ -51,6 +53,22 @@ module _ {A : Type 0} (P : A → Type 0) where
 pub all-map : {A : Type 0} (P Q : A → Type 0) → ((x : A) → P x → Q x) → (l : List A) → All P l → All Q l
 all-map P Q f [] h = tt
 all-map P Q f (x ∷ l) h = (f x (h .0), all-map P Q f l (h .1))
+
+module _ {A : Type 0} (f : A → Bool) (d : A) where
+  pub tally-at : (l : List A) (at : ℕ) → at < length l → f (getD l at d) ≡ true → 1 ≤ tally f l
+  tally-at [] at h e = absurd (omega arith)
+  tally-at (x ∷ l) zero h e = rw e (omega arith)
+  tally-at (x ∷ l) (suc at) h e = omega (arith, tally-at l at (omega arith) e)
+
+  -- the only one is the first
+  pub place-once : (l : List A) (at : ℕ) → at < length l → f (getD l at d) ≡ true → tally f l ≤ 1 → place f l ≡ at
+  place-once [] at h e k = absurd (omega arith)
+  place-once (x ∷ l) zero h e k = rw e
+  place-once (x ∷ l) (suc at) h e k = go (f x) k (place-once l at (omega arith) e)
+    where
+      go : (b : Bool) → one b + tally f l ≤ 1 → (tally f l ≤ 1 → place f l ≡ at) → cond b 0 (suc (place f l)) ≡ suc at
+      go true m g = absurd (omega (arith, tally-at l at (omega arith) e))
+      go false m g = ap suc (g (omega arith))
 
 -- the front, and then what was stored after it
 pub take-sets : {A : Type 0} (l vs : List A) (n : ℕ) → n + length vs ≤ length l → take (n + length vs) (sets l n vs) ≡ take n l ++ vs

@@ -1,6 +1,6 @@
 -- What a move leaves: a whole part, and rows that change as it says. Assumes nothing.
-use mathlib.Core.Path.{_≡_}
-use mathlib.Core.Bool.{Bool}
+use mathlib.Core.Path.{_≡_, refl, sym, _∙_}
+use mathlib.Core.Bool.{Bool, true, false}
 use mathlib.Core.List.{List, [], _++_, append-nil}
 use Prim.Native.Nat.{ℕ, _+_, _-_, _≤_, _<_}
 use native.Mathlib.Omega.{arith}
@@ -8,6 +8,7 @@ use native.Mathlib.Decide.{decLt}
 use native.Mathlib.Nat.{add-zero}
 use lib.ListN.{length, take, length-take}
 use lib.Seq.{sets, length-sets}
+use Rattle.calculus.proofs.Tests.{never}
 use Rattle.calculus.specs.declared.effect.Added.{Added}
 use Rattle.calculus.specs.declared.effect.Effect.{Effect}
 use Rattle.calculus.specs.declared.network.Network.{Network}
@@ -18,7 +19,7 @@ use Rattle.calculus.specs.declared.session.Stage.{Stage}
 use Rattle.calculus.specs.declared.state.Part.{Part}
 use Rattle.model.specs.Row.{held, howMany}
 use Rattle.model.specs.State.{placed, addedRows, sessionAfter, applied}
-use Rattle.model.specs.Requests.{Change, Move, refuse, moved, noRows, nextNumber, withItem, opening, openMove, stepped, stepAt, stepMove, sending, sendMove, closing, closeMove}
+use Rattle.model.specs.Requests.{Change, Move, refuse, moved, noRows, unused, nextNumber, withItem, opening, openMove, stepped, stepAt, stepMove, sending, sendMove, closing, closeMove}
 use Rattle.model.proofs.Checks.{checked-either}
 use Rattle.model.proofs.Parts.{Whole}
 use Rattle.model.proofs.Lists.{take-sets}
@@ -64,38 +65,57 @@ pub record Fair (t t′ : Part) (c : Change) : Type 0 where
       → howMany out a q (held t′) + howMany out a q (c .went) ≡ howMany out a q (held t) + howMany out a q (c .came)
   pub went : (out : Bool) (a q : ℕ) → howMany out a q (c .went) ≤ howMany out a q (held t)
   pub came : length (c .came) ≤ 32
+  -- it is an open that brings a session into use
+  pub opens : unused t ≡ true → unused t′ ≡ false → c .opens ≡ true
 
 abbrev pub FairMove : Part → Move → Type 0
 FairMove t (refuse r) = Unit
 FairMove t (moved a t′ c) = Fair t t′ c
 
 module _ (t : Part) (h : Whole t) where
-  fair-stepped : (at : ℕ) (f : Effect) → FairMove t (stepped t at f)
+  fair-stepped : unused t ≡ false → (at : ℕ) (f : Effect) → FairMove t (stepped t at f)
   unfolding stepped howMany
-  fair-stepped at f =
+  fair-stepped u at f =
       record {
         whole = applied-whole t h at f;
         rows = λ out a q. rw (held-applied t h at f) (omega (arith, many-append out a q (held t) (placed (t .session .rows) (f .added))));
         went = λ out a q. omega arith;
         came = omega (arith, placed-length (t .session .rows) (f .added));
+        opens = λ e w. never (sym u ∙ e);
       }
 
   pub fair-step : (n : Network) (standing : ℕ → ℕ → Bool) (k : ℕ) → FairMove t (stepMove n standing k t)
   unfolding stepMove stepAt
-  fair-step n standing k = checked-either (FairMove t) refuse (λ r. tt) _ (λ e. fair-stepped _ _)
+  fair-step n standing k = checked-either (FairMove t) refuse (λ r. tt) _ (λ e. fair-stepped (e .0) _ _)
 
-  fair-item : (g : Stage) (c d : ℕ) (i : Item) (opens : Bool) → Fair t (withItem t g c d i) (noRows opens)
+  fair-item : (g : Stage) (c d : ℕ) (i : Item) (opens : Bool) → (unused t ≡ true → opens ≡ true) → Fair t (withItem t g c d i) (noRows opens)
   unfolding howMany
-  fair-item g c d i opens = omega (arith, h, length-put (t .items) (nextNumber t) i)
+  fair-item g c d i opens u =
+      record {
+        whole = omega (arith, h, length-put (t .items) (nextNumber t) i);
+        rows = λ out a q. omega arith;
+        went = λ out a q. omega arith;
+        came = omega arith;
+        opens = λ e w. u e;
+      }
 
   pub fair-open : (n : Network) (c d : ℕ) → FairMove t (openMove n c d t)
   unfolding openMove opening
-  fair-open n c d = checked-either (FairMove t) refuse (λ r. tt) _ (λ e. fair-item _ _ _ _ _)
+  fair-open n c d = checked-either (FairMove t) refuse (λ r. tt) _ (λ e. fair-item _ _ _ _ _ (λ u. refl))
 
   pub fair-send : (w : Sender) (tag : ℕ) → FairMove t (sendMove w tag t)
   unfolding sendMove sending
-  fair-send w tag = checked-either (FairMove t) refuse (λ r. tt) _ (λ e. fair-item _ _ _ _ _)
+  fair-send w tag = checked-either (FairMove t) refuse (λ r. tt) _ (λ e. fair-item _ _ _ _ _ (λ u. never (sym (e .0) ∙ u)))
 
   pub fair-close : FairMove t (closeMove t)
   unfolding closeMove closing
-  fair-close = checked-either (FairMove t) refuse (λ r. tt) _ (λ e. omega arith)
+  fair-close =
+      checked-either (FairMove t) refuse (λ r. tt) _
+      (λ e.
+      record {
+        whole = omega arith;
+        rows = λ out a q. omega arith;
+        went = λ out a q. omega arith;
+        came = omega arith;
+        opens = λ u w. never (sym w);
+      })

@@ -1,17 +1,18 @@
 -- What holds of every state that calls reach from a fresh one. Assumes nothing.
-use mathlib.Core.Path.{_≡_, ap}
-use mathlib.Core.Bool.{false}
+use mathlib.Core.Path.{_≡_, refl, sym, ap, _∙_}
+use mathlib.Core.Bool.{Bool, true, false}
 use mathlib.Core.List.{List, [], _∷_}
 use Prim.Native.Nat.{ℕ}
 use native.Mathlib.Omega.{arith}
 use native.Mathlib.Decide.{ℕ-discrete}
+use Rattle.calculus.proofs.Tests.{Way, is, isnt, way, never}
 use Rattle.calculus.specs.declared.network.Network.{Network}
 use Rattle.calculus.specs.declared.request.Request as request
 use Rattle.calculus.specs.declared.state.Part.{Part}
 use Rattle.calculus.specs.declared.state.State.{State}
 use Rattle.model.specs.Row.{stands}
-use Rattle.model.specs.State.{fresh, load}
-use Rattle.model.specs.Requests.{Move, refuse, moved, performed}
+use Rattle.model.specs.State.{fresh, load, store}
+use Rattle.model.specs.Requests.{Move, refuse, moved, unused, changed, performed}
 use Rattle.model.specs.Calls.{Call, call, after}
 use Rattle.model.proofs.Parts.{Numbered}
 use Rattle.model.specs.GivenBack.{Consistent}
@@ -21,13 +22,15 @@ use Rattle.model.proofs.Sane.{Sane, SaneMove, sane-empty, sane-open, sa
 use Rattle.model.proofs.Asked.{sessionIn, own-cases, moveIn}
 use Rattle.model.proofs.Counted.{Good}
 use Rattle.model.proofs.Local.{Seen, seenMove, fair-own, performed-own, performed-others, performed-good}
-use Rattle.model.proofs.Replies.{numbered, Given, byNode, byRoute, call-cases, given-load, given-good, performed-network}
+use Rattle.model.proofs.Replies.{numbered, Given, byNode, byRoute, call-cases, given-load, given-good, performed-network, performed-opened}
 use Rattle.model.proofs.Fresh.{load-fresh, fresh-good}
 
 pub record Sound (s : State) : Type 0 where
   pub good : Good s
   pub consistent : Consistent (s .network)
   pub sane : (u : ℕ) → Numbered u → Sane (load s u)
+  -- where a session is in use one was opened: node and route calls are late
+  pub late : (u : ℕ) → Numbered u → unused (load s u) ≡ false → s .opened ≡ true
 
 consistent-given : (n n′ : Network) → Given n n′ → Consistent n → Consistent n′
 consistent-given n n′ (byNode a k has needs i j) h = consistent-node n a k has needs i j h
@@ -36,6 +39,17 @@ consistent-given n n′ (byRoute a b next e f) h = consistent-route n a b next e
 sane-after : (t : Part) (m : Move) → Sane t → SaneMove m → Sane (seenMove t m .part)
 sane-after t (refuse r) h k = h
 sane-after t (moved a t′ c) h k = k
+
+-- a move of a session in use was preceded by an open, or is one
+late-after : (s : State) (u : ℕ) (m : Move) → FairMove (load s u) m → (unused (load s u) ≡ false → s .opened ≡ true)
+    → unused (seenMove (load s u) m .part) ≡ false → performed s u m .state .opened ≡ true
+unfolding performed store changed
+late-after s u (refuse r) f h e = h e
+late-after s u (moved a t c) f h e = go (way (unused (load s u)))
+  where
+    go : Way (unused (load s u)) → performed s u (moved a t c) .state .opened ≡ true
+    go (is w) = rw (f .opens w e)
+    go (isnt w) = performed-opened s u (moved a t c) (h w)
 
 module _ (s : State) (h : Sound s) where
   sane-own : (u : ℕ) → Numbered u → (q : request.Request) → SaneMove (moveIn s u q)
@@ -51,21 +65,28 @@ module _ (s : State) (h : Sound s) where
         good = performed-good s (h .good) u hu m f;
         consistent = rw (performed-network s u m) (h .consistent);
         sane = λ v hv. part v hv (ℕ-discrete v u);
+        late = λ v hv. opened v hv (ℕ-discrete v u);
       }
     where
+      opened : (v : ℕ) → Numbered v → Dec (v ≡ u) → unused (load (performed s u m .state) v) ≡ false → performed s u m .state .opened ≡ true
+      opened v hv (yes e) w =
+          late-after s u m f (h .late u hu) (rw (e, ap (λ (x : Seen). x .part) (performed-own s (h .good) u hu m f)) at w)
+      opened v hv (no e) w = performed-opened s u m (h .late v hv (rw (performed-others s (h .good) u hu m f v hv e) at w))
+
       part : (v : ℕ) → Numbered v → Dec (v ≡ u) → Sane (load (performed s u m .state) v)
       part v hv (yes e) =
           rw (e, ap (λ (x : Seen). x .part) (performed-own s (h .good) u hu m f)) (sane-after (load s u) m (h .sane u hu) k)
       part v hv (no e) = rw (performed-others s (h .good) u hu m f v hv e) (h .sane v hv)
 
-  call-sound : (c : Call) → Sound (call s c .state)
+  pub call-sound : (c : Call) → Sound (call s c .state)
   call-sound c =
       call-cases Sound s c h
-      (λ e n g.
+      (λ e o n g.
       record {
         good = given-good s n (h .good);
         consistent = consistent-given (s .network) n g (h .consistent);
         sane = λ u hu. rw (given-load s n u) (h .sane u hu);
+        late = λ u hu. rw (given-load s n u) (h .late u hu);
       })
       (λ q i o.
       let u = sessionIn q in
@@ -77,9 +98,14 @@ unfolding after
 after-sound [] s h = h
 after-sound (c ∷ cs) s h = after-sound cs (call s c .state) (call-sound s h c)
 
-fresh-sound : Sound fresh
+pub fresh-sound : Sound fresh
 fresh-sound =
-    record { good = fresh-good; consistent = consistent-fresh; sane = λ u hu. rw (load-fresh u hu) (sane-empty 0 (omega arith)) }
+    record {
+      good = fresh-good;
+      consistent = consistent-fresh;
+      sane = λ u hu. rw (load-fresh u hu) (sane-empty 0 (omega arith));
+      late = λ u hu. rw (load-fresh u hu) (λ e. never (sym e));
+    }
 
 pub reached : (cs : List Call) → Sound (after fresh cs)
 reached cs = after-sound cs fresh fresh-sound

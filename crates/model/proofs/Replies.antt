@@ -1,6 +1,6 @@
 -- What a call can leave of a state, by cases. Assumes nothing.
 use mathlib.Core.Path.{_≡_, refl, sym, subst, _∙_}
-use mathlib.Core.Bool.{Bool, true, false}
+use mathlib.Core.Bool.{Bool, true, false, or-true}
 use mathlib.Core.List.{List}
 use Prim.Native.Nat.{ℕ}
 use native.Mathlib.Omega.{arith}
@@ -35,17 +35,17 @@ pub data Given (n : Network) : Network → Type 0 where
 
 -- a call leaves the state, a network that it gives, or what a session's move leaves
 module _ (P : State → Type 0) (s : State) (c : Call) (same : P s)
-    (gives : givesNetwork c ≡ true → (n : Network) → Given (s .network) n → P (accepted s n .state))
+    (gives : givesNetwork c ≡ true → s .opened ≡ false → (n : Network) → Given (s .network) n → P (accepted s n .state))
     (moves : (q : request.Request) → isSession (sessionIn q) ≡ true → ((u : ℕ) → isOwn u c ≡ eqb (sessionIn q) u)
     → P (performed s (sessionIn q) (moveIn s (sessionIn q) q) .state)) where
   asked-cases : (r : Reading) → Meaning (read (c .line)) r → P (repliedTo s r .state)
   unfolding requested nodeTurn routeTurn
   asked-cases r (refuses x w) = same
   asked-cases r (givesNode a k has needs i j n) =
-      checked-either (λ (t : Turn). P (t .state)) (refused s) (λ x. same) _ (λ e. gives n _ (byNode a k has needs i j))
+      checked-either (λ (t : Turn). P (t .state)) (refused s) (λ x. same) _ (λ e. gives n (e .0) _ (byNode a k has needs i j))
   asked-cases r (givesRoute a b next n) =
       checked-either (λ (t : Turn). P (t .state)) (refused s) (λ x. same) _
-      (λ e. gives n _ (byRoute a b next (not-false (nodesGiven (s .network) a b next) (e .1 .0)) (e .1 .1 .0)))
+      (λ e. gives n (e .0) _ (byRoute a b next (not-false (nodesGiven (s .network) a b next) (e .1 .0)) (e .1 .1 .0)))
   asked-cases r (ofSession q i h) = subst (λ (x : Reply). P (x .state)) (sym (requested-own s _ _ q i)) (moves q i h)
   asked-cases r (shows h) = same
   asked-cases r (givesBack h) = same
@@ -75,17 +75,22 @@ unfolding performed store changed
 performed-network s u (refuse r) = refl
 performed-network s u (moved a t c) = refl
 
+pub performed-opened : (s : State) (u : ℕ) (m : Move) → s .opened ≡ true → performed s u m .state .opened ≡ true
+unfolding performed store changed
+performed-opened s u (refuse r) e = e
+performed-opened s u (moved a t c) e = rw e (or-true (c .opens))
+
 module _ (s : State) (g : Good s) (c : Call) where
   pub call-good : Good (call s c .state)
   call-good =
-      call-cases Good s c g (λ e n h. given-good s n g)
+      call-cases Good s c g (λ e o n h. given-good s n g)
       (λ q i h.
       let k = numbered (sessionIn q) i in
       performed-good s g (sessionIn q) k _ (fair-own s g (sessionIn q) k q))
 
   pub call-others : (u : ℕ) → Numbered u → isOwn u c ≡ false → load (call s c .state) u ≡ load s u
   call-others u hu e =
-      call-cases (λ (x : State). load x u ≡ load s u) s c refl (λ e n h. given-load s n u)
+      call-cases (λ (x : State). load x u ≡ load s u) s c refl (λ e o n h. given-load s n u)
       (λ q i h.
       let k = numbered (sessionIn q) i in
       performed-others s g (sessionIn q) k _ (fair-own s g (sessionIn q) k q) u hu
@@ -93,4 +98,4 @@ module _ (s : State) (g : Good s) (c : Call) where
 
 pub call-network : (s : State) (c : Call) → givesNetwork c ≡ false → call s c .state .network ≡ s .network
 call-network s c e =
-    call-cases (λ (x : State). x .network ≡ s .network) s c refl (λ w n h. never (sym e ∙ w)) (λ q i h. performed-network s (sessionIn q) _)
+    call-cases (λ (x : State). x .network ≡ s .network) s c refl (λ w o n h. never (sym e ∙ w)) (λ q i h. performed-network s (sessionIn q) _)
