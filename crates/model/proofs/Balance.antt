@@ -1,6 +1,6 @@
 -- What each rule does to the weights of a set-up: the waits, the places, the Data items and the rows to come. Assumes nothing.
-use mathlib.Core.Path.{_≡_, sym, subst}
-use mathlib.Core.Bool.{Bool, true, not, _&&_}
+use mathlib.Core.Path.{_≡_, refl, sym, subst, ap}
+use mathlib.Core.Bool.{Bool, true, false, not, _&&_}
 use mathlib.Core.List.{List}
 use Prim.Native.Nat.{ℕ, _+_, _-_, _*_, _≤_}
 use native.Mathlib.Omega.{arith}
@@ -27,13 +27,14 @@ use Rattle.calculus.specs.declared.session.Row.{Row}
 use Rattle.calculus.specs.declared.session.Session.{Session}
 use Rattle.calculus.specs.declared.state.Part.{Part}
 use Rattle.model.specs.Network.{isGateway, nextHop, hasAllNeeded}
-use Rattle.model.specs.Packet.{bare, under, target}
+use Rattle.model.specs.Packet.{bare, under, target, isData}
 use Rattle.model.specs.Row.{held, admits}
 use Rattle.model.specs.Rules.{writesFor, discovers, unprotected, onward, wireRule, outRule, headerStands, upWith, upRule, agrees, received, inRule, estRule, authRule, grantRule, ackRule, rule}
 use Rattle.model.specs.State.{writtenCount, stageAfter, begunAfter, addedRows}
 use Rattle.model.specs.SetUp.{isPending}
+use Rattle.model.proofs.Checks.{one}
 use Rattle.model.proofs.Weights.{count, weighOut, weighWait}
-use Rattle.model.proofs.SetUpWeights.{waits, uses, space, carries, due, spare, packetSpace, Wanted, wanted}
+use Rattle.model.proofs.SetUpWeights.{waits, uses, space, carries, active, due, spare, packetSpace, Wanted, wanted}
 
 -- ---- the rules
 
@@ -44,41 +45,47 @@ pub record Law (s : Session) (i : Item) (f : Effect) : Type 0 where
   pub waits : (v : Wait) → weighOut (uses v) (f .outcome) + weighWait (waits v) (f .wait) ≤ uses v i + weighOut (waits v) (f .outcome)
   pub places : weighOut space (f .outcome) + spare (stageAfter (s .stage) (f .outcome)) ≤ space i + weighWait space (f .wait) + spare (s .stage)
   pub tags : weighOut carries (f .outcome) ≤ carries i
+  pub actives : weighOut active (f .outcome) ≤ active i
   pub stage : spare (stageAfter (s .stage) (f .outcome)) ≤ spare (s .stage)
   pub begun : begunAfter (s .begun) (f .begins) - 8 ≤ s .begun - 8
   pub rows : weighOut due (f .outcome) + length (addedRows (f .added)) + 4 * (8 - begunAfter (s .begun) (f .begins)) ≤ due i + 4 * (8 - s .begun)
+  -- Data adds no rows and begins nothing
+  pub adds : length (addedRows (f .added)) ≤ 2 * active i
+  pub begins : (s .begun ≤ begunAfter (s .begun) (f .begins)) × (begunAfter (s .begun) (f .begins) ≤ s .begun + active i)
 
-discovers-space : (gateway : Bool) (server a : ℕ) (y : Payload) → discovers gateway server a y ≡ true → 3 ≤ packetSpace y
+discovers-space : (gateway : Bool) (server a : ℕ) (y : Payload) → discovers gateway server a y ≡ true → (3 ≤ packetSpace y) × (isData y ≡ false)
 discovers-space gateway server a (Req e) h = never h
 discovers-space gateway server a (Rep e) h = never h
-discovers-space gateway server a (Disc p) h = omega arith
+discovers-space gateway server a (Disc p) h = (omega arith, refl)
 discovers-space gateway server a Done h = never h
 discovers-space gateway server a (Data tag) h = never h
 
 onward-law : (next : NextHop) (s : Session) (a : ℕ) (p : Packet) (h : ℕ) → Law s (Wire a p h) (onward next p h)
-unfolding uses space carries due
+unfolding uses space carries active due
 onward-law Missing s a p h = omega arith
 onward-law (Found next) s a p h = omega arith
 
 wire-law : (gateway : Bool) (next : NextHop) (s : Session) (a : ℕ) (p : Packet) (h : ℕ) → Law s (Wire a p h) (wireRule gateway next s a p h)
-unfolding uses space carries due wireRule
+unfolding uses space carries active due wireRule
 wire-law gateway next s a p h =
     let P = Law s (Wire a p h) in
     either P (discovers gateway (s .server) a (p .payload))
     (λ k. either P (leb 8 (s .begun)) (λ e. omega arith)
-    (λ e. omega (arith, discovers-space gateway (s .server) a (p .payload) k, leb-false 8 (s .begun) e)))
+    (λ e.
+    let x = discovers-space gateway (s .server) a (p .payload) k in
+    omega (arith, ap (λ (o : Bool). one (not o && true)) (x .1), leb-false 8 (s .begun) e)))
     (λ e. either P (eqb a (target p)) (λ e. omega arith)
     (λ e. either P (unprotected gateway p) (λ e. omega arith)
     (λ e. either P (eqb h 0) (λ e. omega arith) (λ e. onward-law next s a p h))))
 
 up-law : (x : Header) (inStands : Bool) (s : Session) (rows : List Row) (a : ℕ) (p : Packet) → Law s (Up a p) (upWith x inStands rows a p)
-unfolding uses space carries due
+unfolding uses space carries active due
 up-law Bare inStands s rows a p = omega arith
 up-law (Tunnel q to i) inStands s rows a p = either (Law s (Up a p)) (inStands && admits rows a q) (λ e. omega arith) (λ e. omega arith)
 
 -- a packet received at its destination
 received-law : (s : Session) (a b : ℕ) (y : Payload) (x : Header) (q : Via) → Law s (In a (under (bare b a y) x) q) (received a b y)
-unfolding uses space carries due
+unfolding uses space carries active due
 received-law s a b (Req e) x q = omega arith
 received-law s a b (Rep e) x q = omega (arith, wanted (In a (under (bare b a (Rep e)) x) q))
 received-law s a b (Disc p) x q = omega arith
@@ -86,7 +93,7 @@ received-law s a b Done x q = omega arith
 received-law s a b (Data tag) x q = omega arith
 
 in-law : (s : Session) (rows : List Row) (a : ℕ) (p : Packet) (q : Via) → Law s (In a p q) (inRule rows a p q)
-unfolding uses space carries due inRule
+unfolding uses space carries active due inRule
 in-law s rows a p q =
     let P = Law s (In a p q) in
     either P (not (agrees rows a p q)) (λ e. omega arith)
@@ -95,22 +102,22 @@ in-law s rows a p q =
     (sym (eqb-true (p .destination) a (not-false (eqb (p .destination) a) e))) (received-law s a (p .source) (p .payload) (p .header) q)))
 
 auth-law : (enough : Bool) (s : Session) (a q e : ℕ) (side : Side) → Law s (Auth a q e side) (authRule enough a q e side)
-unfolding uses space carries due authRule
+unfolding uses space carries active due authRule
 auth-law enough s a q e side = either (Law s (Auth a q e side)) enough (λ e. omega arith) (λ e. omega arith)
 
 grant-law : (s : Session) (a q e : ℕ) (side : Side) → Law s (Grant a q e side) (grantRule s a q e side)
-unfolding uses space carries due grantRule
+unfolding uses space carries active due grantRule
 grant-law s a q e Responder = omega arith
 grant-law s a q e Initiator = omega arith
 
 ack-law : (s : Session) (a e : ℕ) → Law s (Ack a e) (ackRule s a)
-unfolding uses space carries due ackRule
+unfolding uses space carries active due ackRule
 ack-law s a e =
     let h = wanted (Ack a e) in
     either (λ (i : Item). Law s (Ack a e) (writesFor (ackRule s a .wait) i)) (eqb a (s .server)) (λ k. omega (arith, h)) (λ k. omega (arith, h))
 
 pub rule-law : (n : Network) (standing : ℕ → ℕ → Bool) (t : Part) (i : Item) → Law (t .session) i (rule n standing t i)
-unfolding uses space carries due rule outRule upRule estRule
+unfolding uses space carries active due rule outRule upRule estRule
 rule-law n standing t Free = omega arith
 rule-law n standing t (Wire a p h) = wire-law (isGateway n a) (nextHop n a (target p)) (t .session) a p h
 rule-law n standing t (Out a p) = omega arith

@@ -24,6 +24,12 @@ pub mod Numbers
 pub mod Alone
 pub mod Fresh
 pub mod Reached
+pub mod Points
+pub mod Trips
+pub mod Underway
+pub mod Tracked
+pub mod Bounded
+pub mod Termination
 pub mod Noninterference
 pub mod SetUp
 pub mod Refusals

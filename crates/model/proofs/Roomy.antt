@@ -19,7 +19,7 @@ use Rattle.model.specs.SetUp.{isPending, itemAt}
 use Rattle.model.proofs.Parts.{Whole}
 use Rattle.model.proofs.Weights.{count, weigh, weighOut, weighWait, weigh-set, weigh-at, weigh-put, not-that-wait, length-put, ledger}
 use Rattle.model.proofs.Moves.{applied-whole}
-use Rattle.model.proofs.SetUpWeights.{waits, uses, space, carries, due, spare, pending, pends}
+use Rattle.model.proofs.SetUpWeights.{waits, uses, space, carries, active, due, spare, pending, pends}
 use Rattle.model.proofs.Balance.{Law}
 
 pub record Roomy (t : Part) : Type 0 where
@@ -29,6 +29,8 @@ pub record Roomy (t : Part) : Type 0 where
   -- the set-up holds 3 places at most, Data 12; an unused session holds none
   pub places : weigh space (t .items) + spare (t .session .stage) ≤ 3
   pub tags : weigh carries (t .items) + 4 * spare (t .session .stage) ≤ 12
+  -- one item at most is neither a wait nor Data
+  pub actives : weigh active (t .items) ≤ 1
   pub begun : t .session .begun ≤ 8
   -- the rows there are and those to come: 4 for each of 8 establishments
   pub rows : weigh due (t .items) + 4 * (8 - t .session .begun) + t .session .rows ≤ 32
@@ -43,7 +45,7 @@ emptied last =
     }
 
 pub roomy-empty : (last : ℕ) → Roomy (emptied last)
-unfolding weigh uses space carries due
+unfolding weigh uses space carries active due
 roomy-empty last = omega arith
 
 module _ (t : Part) (h : Roomy t) where
@@ -80,7 +82,7 @@ module _ (t : Part) (h : Roomy t) where
     rows-fit = omega (arith, law .rows, h .rows, weigh-at due refl (t .items) at)
 
     pub roomy-step : Roomy (applied t at f)
-    unfolding waits uses space carries due applied sessionAfter
+    unfolding waits uses space carries active due applied sessionAfter
     roomy-step =
         record {
           whole = applied-whole t (h .whole) at f;
@@ -95,6 +97,7 @@ module _ (t : Part) (h : Roomy t) where
               );
           places = omega (arith, step-ledger space refl);
           tags = omega (arith, step-ledger carries refl);
+          actives = omega (arith, step-ledger active refl, law .actives);
           begun = omega (arith, law .begun, h .begun);
           rows = omega (arith, step-ledger due refl, length-take (32 - t .session .rows) (addedRows (f .added)));
         }
@@ -102,9 +105,10 @@ module _ (t : Part) (h : Roomy t) where
   -- ---- an item more, for which nothing waits
 
   pub roomy-item : (g : Stage) (c d : ℕ) (i : Item) → ((v : Wait) → uses v i ≡ 0) → due i ≡ 0
-      → weigh space (t .items) + space i + spare g ≤ 3 → weigh carries (t .items) + carries i + 4 * spare g ≤ 12 → Roomy (withItem t g c d i)
-  unfolding waits uses space carries due
-  roomy-item g c d i no-waits no-rows places tags =
+      → weigh space (t .items) + space i + spare g ≤ 3 → weigh carries (t .items) + carries i + 4 * spare g ≤ 12
+      → weigh active (t .items) + active i ≤ 1 → Roomy (withItem t g c d i)
+  unfolding waits uses space carries active due
+  roomy-item g c d i no-waits no-rows places tags actives =
       let n = nextNumber t in
       let room : weigh (count isPending) (t .items) < length (t .items) = omega (arith, pending (t .items)) in
       let put : (x : Item → ℕ) → x Free ≡ 0 → weigh x (putItem (t .items) n i) ≡ weigh x (t .items) + x i =
@@ -114,6 +118,7 @@ module _ (t : Part) (h : Roomy t) where
         waits = λ v. omega (arith, put (uses v) refl, put (waits v) (not-that-wait v Free refl), h .waits v, no-waits v);
         places = omega (arith, put space refl);
         tags = omega (arith, put carries refl);
+        actives = omega (arith, put active refl);
         begun = h .begun;
         rows = omega (arith, put due refl, no-rows);
       }

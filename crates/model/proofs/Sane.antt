@@ -33,8 +33,8 @@ use Rattle.model.proofs.Checks.{checked-either}
 use Rattle.model.specs.Lists.{place, All}
 use Rattle.model.proofs.Lists.{all-set, all-get, all-append, all-take, all-replicate}
 use Rattle.model.proofs.Nodes.{Node, given-node}
-use Rattle.model.proofs.Weights.{count, weigh, counted, free-is}
-use Rattle.model.proofs.SetUpWeights.{uses, space, carries, due, spare, pending}
+use Rattle.model.proofs.Weights.{count, weigh, counted, weigh-le, free-is}
+use Rattle.model.proofs.SetUpWeights.{uses, space, carries, active, due, spare, active-space, pending}
 use Rattle.model.proofs.Balance.{rule-law}
 use Rattle.model.proofs.Pending.{Distinct, distinct-step, distinct-item}
 use Rattle.model.proofs.Roomy.{Roomy, emptied, roomy-empty, roomy-step, roomy-item}
@@ -48,7 +48,7 @@ abbrev pub At : (Item → Type 0) → Slot → Type 0
 At P s = P (s .item)
 
 module _ (P : Item → Type 0) where
-  all-put : (l : List Slot) (n : ℕ) (i : Item) → All (At P) l → P i → All (At P) (putItem l n i)
+  pub all-put : (l : List Slot) (n : ℕ) (i : Item) → All (At P) l → P i → All (At P) (putItem l n i)
   unfolding putItem
   all-put l n i h k = all-set (At P) l (place vacant l) (record { number = record { 0 = n }; item = i }) h k
 
@@ -61,12 +61,13 @@ module _ (P : Item → Type 0) where
   all-written l n (Delivered tag) h k = h
 
   module _ (z : P Free) where
-    all-after : (l : List Slot) (n at : ℕ) (f : Effect) → All (At P) l → Written P (f .outcome) → All (At P) (itemsAfter l n at f)
+    pub all-after : (l : List Slot) (n at : ℕ) (f : Effect) → All (At P) (set l at blankSlot) → Written P (f .outcome)
+        → All (At P) (itemsAfter l n at f)
     unfolding itemsAfter useUp
     all-after l n at f h k =
         let rest = set l at blankSlot in
         all-written (useUp rest (f .wait)) n (f .outcome)
-        (all-set (At P) rest (place (λ (s : Slot). isThatWait (f .wait) (s .item)) rest) blankSlot (all-set (At P) l at blankSlot h z) z) k
+        (all-set (At P) rest (place (λ (s : Slot). isThatWait (f .wait) (s .item)) rest) blankSlot h z) k
 
     -- where nothing pends every place is free
     all-free : (l : List Slot) → weigh (count isPending) l ≡ 0 → All (At P) l
@@ -106,6 +107,12 @@ sane-empty last b =
       idle = λ e. (refl, refl);
     }
 
+-- an unused session has no items
+pub all-unused : (P : Item → Type 0) → P Free → (t : Part) → Sane t → unused t ≡ true → All (At P) (t .items)
+all-unused P z t h u =
+    let k : spare (t .session .stage) ≡ 3 = rw u in
+    all-free P z (t .items) (omega (arith, pending (t .items), h .roomy))
+
 -- a session in use stays so in a step
 still-used : (g g′ : Stage) → isUnused g ≡ false → isUnused g′ ≡ true → spare g′ ≤ spare g → ⊥
 still-used g g′ u e h =
@@ -140,7 +147,7 @@ module _ (t : Part) (h : Sane t) where
           rows = rw (held-applied t (h .roomy .whole) at f)
               (all-append RowNamed (held t) (placed (t .session .rows) (f .added)) (h .rows)
               (all-take RowNamed (32 - t .session .rows) (addedRows (f .added)) (k .1)));
-          items = all-after (Named v) tt (t .items) (t .session .last .0) at f (h .items) (k .0);
+          items = all-after (Named v) tt (t .items) (t .session .last .0) at f (all-set (At (Named v)) (t .items) at blankSlot (h .items) tt) (k .0);
           ends = λ w. ends;
           last = omega (arith, ltb-false 999998 (t .session .last .0) l, written-few (f .outcome));
           distinct = distinct-step t (h .distinct) at f;
@@ -173,14 +180,15 @@ module _ (t : Part) (h : Sane t) where
       }
 
   sane-opening : (c d : ℕ) → unused t ≡ true → spent t ≡ false → Node c → Node d → (c ≡ d → ⊥) → Sane (opening t c d)
-  unfolding opening uses space carries due
+  unfolding opening uses space carries active due
   sane-opening c d u l hc hd ne =
       let z : spare (t .session .stage) ≡ 3 = rw u in
       let i = Wire c (bare c d (Disc c)) 32 in
       sane-item Stage.SettingUp c d i refl l hc hd
-      (all-free (Named d) tt (t .items) (omega (arith, pending (t .items))))
+      (all-unused (Named d) tt t h u)
       (hc, bare-named c d (Disc c) hc hd, λ e. (hc, ne, refl, refl), omega arith)
-      (roomy-item t (h .roomy) Stage.SettingUp c d i (λ v. refl) refl (omega arith) (omega arith))
+      (roomy-item t (h .roomy) Stage.SettingUp c d i (λ v. refl) refl (omega arith) (omega arith)
+      (omega (arith, weigh-le active space active-space (t .items))))
 
   pub sane-open : (n : Network) (c d : ℕ) → SaneMove (openMove n c d t)
   unfolding openMove
@@ -194,7 +202,7 @@ module _ (t : Part) (h : Sane t) where
     -- a Data from the one end to the other
     sane-data : (a b : ℕ) → Node a → Node b
         → Sane (withItem t (t .session .stage) (t .session .client) (t .session .server) (Out a (bare a b (Data tag))))
-    unfolding uses space carries due
+    unfolding uses space carries active due
     sane-data a b ha hb =
         let g = t .session .stage in
         let c = t .session .client in
@@ -203,7 +211,7 @@ module _ (t : Part) (h : Sane t) where
         let z : spare g ≡ 0 = rw u in
         let k = leb-false 12 (howManyItems isDataItem (t .items)) room in
         sane-item g c d i u l (h .ends u .0) (h .ends u .1) (h .items) (ha, bare-named a b (Data tag) ha hb, refl)
-        (roomy-item t (h .roomy) g c d i (λ v. refl) refl (omega arith) (omega (arith, counted isDataItem (t .items))))
+        (roomy-item t (h .roomy) g c d i (λ v. refl) refl (omega arith) (omega (arith, counted isDataItem (t .items))) (omega arith))
 
     sane-sending : (w : Sender) → Sane (sending t w tag)
     unfolding sending

@@ -17,8 +17,9 @@ use Rattle.calculus.specs.declared.packet.Item.the-variants.{Free, Wire, Out, U
 use Rattle.calculus.specs.declared.packet.Slot.{Slot}
 use Rattle.calculus.specs.declared.session.Stage.{Stage}
 use Rattle.model.specs.Packet.{isData}
-use Rattle.model.specs.Item.{isThatWait, isDataItem}
+use Rattle.model.specs.Item.{isWait, isThatWait, isDataItem}
 use Rattle.model.specs.Requests.{isUnused}
+use Rattle.model.specs.Termination.{isActive}
 use Rattle.model.specs.SetUp.{isPending, isSetUpItem, isGrant, Pends, waitOfPacket, waitOf}
 use Rattle.model.proofs.Weights.{count, weigh, counted, weigh-le, weigh-sum}
 
@@ -80,6 +81,10 @@ space i = weight (λ p. packetSpace (p .payload)) (λ a. 2) (λ s a q e. sideSpa
 -- it is a packet with Data
 unfoldable pub carries : Item → ℕ
 carries i = count isDataItem i
+
+-- it is neither a wait nor Data
+unfoldable pub active : Item → ℕ
+active i = count isActive i
 
 abbrev packetDue : Payload → ℕ
 packetDue (Req e) = 4
@@ -163,6 +168,15 @@ set-up-space (Grant a q e side) = side-space side
 set-up-space (Ack a e) = omega arith
 set-up-space (Dwait a) = omega arith
 set-up-space (Ewait a e) = omega arith
+
+pub active-space : (i : Item) → active i ≤ space i
+unfolding active
+active-space i = go (isSetUpItem i) (isWait i) (set-up-space i)
+  where
+    go : (p w : Bool) {k : ℕ} → cond p 1 0 ≤ k → cond (p && not w) 1 0 ≤ k
+    go true true h = omega arith
+    go true false h = h
+    go false w h = omega arith
 
 -- an item is the set-up's, or Data
 set-up-or-data : (i : Item) → count isPending i ≤ space i + carries i

@@ -15,6 +15,7 @@ pub mod Texts
 pub mod Stream
 pub mod Noninterference
 pub mod SetUp
+pub mod Termination
 pub mod Refusals
 pub mod Show
 pub mod GivenBack
