@@ -328,7 +328,16 @@ shownInOrder =
     ⇒ "(assoc 1 in 2 257 1)\n(assoc 1 in 10 265 1)\n(assoc 1 out 2 288 1)\n(assoc 1 out 10 544 1)\n(assoc 2 in 1 288 1)\n(assoc 2 out 1 257 1)\n(assoc 10 in 1 544 1)\n(assoc 10 out 1 265 1)\n(end)"
     ∷ []
 
+-- #103: the Req is lost, and what is left are its two waits, for ever, and data that was sent since
+abbrev pub waitsLeft : Listing
+waitsLeft =
+    oneWay
+    ++ "(open 1 1 2)" ⇒ "(made 1)" ∷ "(step 1 1)" ⇒ "(made 2)" ∷ "(step 1 2)" ⇒ "(made 3 4)" ∷ "(step 1 4)" ⇒ "(made 5 6)"
+    ∷ "(step 1 5)" ⇒ "(made 7)" ∷ "(step 1 7)" ⇒ "(lost 3)" ∷ "(step 1 3)" ⇒ "(no 12)" ∷ "(step 1 6)" ⇒ "(no 12)"
+    ∷ "(send 1 0 77)" ⇒ "(made 8)" ∷ "(step 1 8)" ⇒ "(made 9)" ∷ "(step 1 7)" ⇒ "(no 11)"
+    ∷ []
+
 abbrev pub furtherExamples : List Listing
 furtherExamples =
     throughGateway ∷ newestOfTwoRows ∷ exhausted ∷ dataInFirstOfThree ∷ threeTunnels ∷ serverSends ∷ lossesAtAGateway ∷ refusalsInOrder
-    ∷ networkGivenBack ∷ shownInOrder ∷ []
+    ∷ networkGivenBack ∷ shownInOrder ∷ waitsLeft ∷ []

@@ -28,7 +28,8 @@ use Rattle.model.specs.State.{fresh, load}
 use Rattle.model.specs.Calls.{Call, call, linesOf, after, replies}
 use Rattle.model.specs.Texts.{roomyCall}
 use Rattle.model.specs.Noninterference.{View, view}
-use Rattle.model.specs.Listings.{Exchange, Listing, listings, listingB, listingC, listingF, dataInFirstOfThree, threeTunnels, furtherExamples}
+use Rattle.model.specs.Termination.{setUpSteps}
+use Rattle.model.specs.Listings.{Exchange, Listing, listings, listingA, listingB, listingC, listingF, dataInFirstOfThree, threeTunnels, waitsLeft, furtherExamples}
 
 -- ---- what is written
 
@@ -203,8 +204,28 @@ endOfThreeTunnels =
       };
     }
 
+-- where the Req is lost: waits and Data
+abbrev pub onlyWaitsAndData : Moment
+onlyWaitsAndData =
+    record {
+      calls = waitsLeft;
+      sees = record {
+        stage = Stage.SettingUp;
+        ends = some (1, 2);
+        items = item 3 (Dwait 2) ∷ item 9 (Wire 1 (packet 1 2 (Data 77) Bare) 32) ∷ item 6 (Ewait 2 1) ∷ [];
+        rows = [];
+        begun = 1;
+        last = 9;
+      };
+    }
+
 abbrev pub moments : List Moment
-moments = beforeAck ∷ endOfB ∷ endOfF ∷ middleOfC ∷ endOfC ∷ discOfAnAck ∷ endOfThreeTunnels ∷ []
+moments = beforeAck ∷ endOfB ∷ endOfF ∷ middleOfC ∷ endOfC ∷ discOfAnAck ∷ endOfThreeTunnels ∷ onlyWaitsAndData ∷ []
+
+-- ---- how many steps session 1 took
+
+abbrev pub stepsBehind : Listing → ℕ
+stepsBehind l = setUpSteps 1 fresh 0 (map callOf l)
 
 -- ---- the promise
 
@@ -217,3 +238,7 @@ pub record Listings : Type 0 where
   pub further : map outputs furtherExamples ≡ map expected furtherExamples
   -- what no answer shows: stages, ends, items with their contents, rows in their order of age
   pub views : map (λ m. seenBehind (m .calls)) moments ≡ map (λ m. m .sees) moments
+  -- #103's count behind A to I: neither C's steps of Data nor refused ones are in it, A's second open begins it anew, H's close leaves it
+  pub steps : map stepsBehind listings ≡ 0 ∷ 23 ∷ 10 ∷ 10 ∷ 23 ∷ 9 ∷ 33 ∷ 23 ∷ 0 ∷ []
+  -- and before that open, with three tunnels, and where only waits and Data are left
+  pub furtherSteps : map stepsBehind (take 10 listingA ∷ threeTunnels ∷ waitsLeft ∷ []) ≡ 2 ∷ 69 ∷ 5 ∷ []
