@@ -2,9 +2,9 @@
 use mathlib.Core.Path.{_≡_, refl, sym, subst, ap}
 use mathlib.Core.Bool.{Bool, true, false, not, _&&_}
 use mathlib.Core.List.{List}
-use Prim.Native.Nat.{ℕ, _+_, _-_, _*_, _≤_}
+use Prim.Native.Nat.{ℕ, _+_, _-_, _*_, _≤_, _<_}
 use native.Mathlib.Omega.{arith}
-use lib.Dec.{leb, eqb}
+use lib.Dec.{eqb}
 use lib.ListN.{length}
 use borrow.Author.Tests.{not-false, leb-false, eqb-true}
 use Rattle.calculus.proofs.Tests.{never, either}
@@ -29,7 +29,7 @@ use Rattle.calculus.specs.declared.state.Part.{Part}
 use Rattle.model.specs.Network.{isGateway, nextHop, hasAllNeeded}
 use Rattle.model.specs.Packet.{bare, under, target, isData}
 use Rattle.model.specs.Row.{held, admits}
-use Rattle.model.specs.Rules.{writesFor, discovers, unprotected, onward, wireRule, outRule, headerStands, upWith, upRule, agrees, received, inRule, estRule, authRule, grantRule, ackRule, rule}
+use Rattle.model.specs.Rules.{writesFor, discovers, isExhausted, unprotected, onward, wireRule, outRule, headerStands, upWith, upRule, agrees, received, inRule, estRule, authRule, grantRule, ackRule, rule}
 use Rattle.model.specs.State.{writtenCount, stageAfter, begunAfter, addedRows}
 use Rattle.model.specs.SetUp.{isPending}
 use Rattle.model.proofs.Checks.{one}
@@ -53,6 +53,9 @@ pub record Law (s : Session) (i : Item) (f : Effect) : Type 0 where
   pub adds : length (addedRows (f .added)) ≤ 2 * active i
   pub begins : (s .begun ≤ begunAfter (s .begun) (f .begins)) × (begunAfter (s .begun) (f .begins) ≤ s .begun + active i)
 
+pub not-exhausted : (s : Session) → isExhausted s ≡ false → s .begun < 8
+not-exhausted s e = leb-false _ (s .begun) e
+
 discovers-space : (gateway : Bool) (server a : ℕ) (y : Payload) → discovers gateway server a y ≡ true → (3 ≤ packetSpace y) × (isData y ≡ false)
 discovers-space gateway server a (Req e) h = never h
 discovers-space gateway server a (Rep e) h = never h
@@ -70,10 +73,10 @@ unfolding uses space carries active due wireRule
 wire-law gateway next s a p h =
     let P = Law s (Wire a p h) in
     either P (discovers gateway (s .server) a (p .payload))
-    (λ k. either P (leb 8 (s .begun)) (λ e. omega arith)
+    (λ k. either P (isExhausted s) (λ e. omega arith)
     (λ e.
     let x = discovers-space gateway (s .server) a (p .payload) k in
-    omega (arith, ap (λ (o : Bool). one (not o && true)) (x .1), leb-false 8 (s .begun) e)))
+    omega (arith, ap (λ (o : Bool). one (not o && true)) (x .1), not-exhausted s e)))
     (λ e. either P (eqb a (target p)) (λ e. omega arith)
     (λ e. either P (unprotected gateway p) (λ e. omega arith)
     (λ e. either P (eqb h 0) (λ e. omega arith) (λ e. onward-law next s a p h))))

@@ -1,5 +1,5 @@
 -- A session's count stays within the ceiling, over its requests and over lists of calls. Assumes nothing.
-use mathlib.Core.Path.{_≡_, refl, sym, ap, _∙_}
+use mathlib.Core.Path.{_≡_, refl, sym, subst, _∙_}
 use mathlib.Core.Bool.{Bool, true, false, cond, _&&_, _||_}
 use mathlib.Core.List.{List, [], _∷_}
 use mathlib.Core.Option.{Option, none, some}
@@ -176,20 +176,18 @@ module _ (u : ℕ) (hu : Numbered u) where
       go (isnt w) = never (sym o ∙ h .late u hu w)
 
   call-tracked : (s : State) (n : ℕ) → Follows u s n → (c : Call) → Tracked (call s c .state .network) (load (call s c .state) u) (callCount u s n c)
-  call-tracked s n h c = go (isOwn u c) refl
+  call-tracked s n h c = go (way (isOwn u c))
     where
       k : Sound s
       k = h .sound
 
-      go : (b : Bool) → isOwn u c ≡ b
-          → Tracked (call s c .state .network) (load (call s c .state) u)
-          (cond (b && isAccepted (call s c .refusal)) (formCount (load s u .items) n (read (c .line))) n)
-      go true e =
-          let o = call-own s (k .good) u hu c e in
-          rw (call-network s c (own-gives-nothing u c e), ap (λ (x : Seen). x .part) o, ap (λ (x : Seen). x .refusal) o)
-          (local-tracked (s .network) (load s u) (k .sane u hu) n (h .tracked) c)
-      go false e =
-          rw (call-others s (k .good) c u hu e)
+      go : Way (isOwn u c) → Tracked (call s c .state .network) (load (call s c .state) u) (callCount u s n c)
+      go (is e) =
+          rw (e, call-network s c (own-gives-nothing u c e))
+          (subst (λ (x : Seen). Tracked (s .network) (x .part) (cond (isAccepted (x .refusal)) (formCount (load s u .items) n (read (c .line))) n))
+          (sym (call-own s (k .good) u hu c e)) (local-tracked (s .network) (load s u) (k .sane u hu) n (h .tracked) c))
+      go (isnt e) =
+          rw (e, call-others s (k .good) c u hu e)
           (call-cases (λ (x : State). Tracked (x .network) (load s u) n) s c (h .tracked)
           (λ w o network g. unused-tracked network (load s u) (k .sane u hu) (not-opened s k o) n (h .tracked .few))
           (λ q i w. rw (performed-network s _ _) (h .tracked)))

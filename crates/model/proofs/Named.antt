@@ -4,7 +4,7 @@ use mathlib.Core.Bool.{Bool, true, false, not, _&&_, or-true}
 use mathlib.Core.List.{List, [], _∷_}
 use Prim.Native.Nat.{ℕ, _≤_}
 use native.Mathlib.Omega.{arith}
-use lib.Dec.{leb, eqb}
+use lib.Dec.{eqb}
 use borrow.Author.Tests.{eqb-true, eqb-false, eq-eqb, ne-eqb}
 use Rattle.calculus.proofs.Tests.{both, never, either}
 use Rattle.calculus.specs.Number.{isNode}
@@ -31,7 +31,7 @@ use Rattle.calculus.specs.declared.state.Part.{Part}
 use Rattle.model.specs.Network.{isGateway, nextHop, hasAllNeeded}
 use Rattle.model.specs.Packet.{bare, headedTo, target}
 use Rattle.model.specs.Row.{held, fits, newer, newest, admits, areNodes}
-use Rattle.model.specs.Rules.{discovers, lastPoint, unprotected, onward, wireRule, headerTo, outRule, headerStands, upWith, upRule, agrees, received, inRule, estRule, authRule, grantRule, ackRule, rule}
+use Rattle.model.specs.Rules.{discovers, lastPoint, isExhausted, unprotected, onward, wireRule, headerTo, outRule, headerStands, upWith, upRule, agrees, received, inRule, estRule, authRule, grantRule, ackRule, rule}
 use Rattle.model.specs.State.{addedRows}
 use Rattle.model.specs.SetUp.{isDisc}
 use Rattle.model.specs.Lists.{fold, All}
@@ -127,7 +127,7 @@ wire-named gateway next s a p h k o =
     let v = s .server in
     let P = EffectNamed v in
     either P (discovers gateway v a (p .payload))
-    (λ e. either P (leb 8 (s .begun)) (λ e. (tt, tt))
+    (λ e. either P (isExhausted s) (λ e. (tt, tt))
     (λ w. ((tt, (o .0, o .2 (discovers-disc gateway v a (p .payload) e) .0)), tt)))
     (λ e. either P (eqb a (target p))
     (λ w. ((o .0, o .1, arrives v gateway a (p .payload) (p .destination) (p .header) e (o .2) (eqb-true a (target p) w)), tt))

@@ -133,7 +133,7 @@ module _ (t : Part) (h : Sane t) where
   -- ---- step
 
   module _ (n : Network) (hn : Consistent n) (standing : ℕ → ℕ → Bool) where
-    sane-applied : (at : ℕ) → unused t ≡ false → leb 16 at ≡ false → isWait (itemAt (t .items) at) ≡ false → spent t ≡ false
+    sane-applied : (at : ℕ) → unused t ≡ false → leb 16 at ≡ false → isWait (itemAt (t .items) at) ≡ false → t .session .last .0 ≤ 999998
         → Sane (applied t at (rule n standing t (itemAt (t .items) at)))
     unfolding applied sessionAfter
     sane-applied at u b w l =
@@ -149,7 +149,7 @@ module _ (t : Part) (h : Sane t) where
               (all-take RowNamed (32 - t .session .rows) (addedRows (f .added)) (k .1)));
           items = all-after (Named v) tt (t .items) (t .session .last .0) at f (all-set (At (Named v)) (t .items) at blankSlot (h .items) tt) (k .0);
           ends = λ w. ends;
-          last = omega (arith, ltb-false 999998 (t .session .last .0) l, written-few (f .outcome));
+          last = omega (arith, written-few (f .outcome));
           distinct = distinct-step t (h .distinct) at f;
           idle = λ e. absurd (still-used (t .session .stage) (stageAfter (t .session .stage) (f .outcome)) u e (rule-law n standing t i .stage));
         }
@@ -157,7 +157,8 @@ module _ (t : Part) (h : Sane t) where
     sane-at : (at : ℕ) → SaneMove (stepAt n standing t at)
     unfolding stepAt stepped
     sane-at at =
-        checked-either SaneMove refuse (λ r. tt) _ (λ e. sane-applied at (e .0) (e .1 .0) (e .1 .1 .0) (e .1 .1 .1 .0))
+        checked-either SaneMove refuse (λ r. tt) _
+        (λ e. sane-applied at (e .0) (e .1 .0) (e .1 .1 .0) (omega (arith, ltb-false _ (t .session .last .0) (e .1 .1 .1 .0))))
 
     pub sane-step : (k : ℕ) → SaneMove (stepMove n standing k t)
     unfolding stepMove

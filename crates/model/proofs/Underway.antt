@@ -5,8 +5,8 @@ use mathlib.Core.Bool.{Bool, true, false, not, _&&_, _||_, or-true}
 use mathlib.Core.List.{[], _∷_}
 use Prim.Native.Nat.{ℕ, _+_, _-_, _*_, _≤_, _<_}
 use native.Mathlib.Omega.{arith}
-use lib.Dec.{leb, eqb}
-use borrow.Author.Tests.{eqb-true, eqb-false, eq-eqb, ne-eqb, leb-false, not-false, not-true}
+use lib.Dec.{eqb}
+use borrow.Author.Tests.{eqb-true, eqb-false, eq-eqb, ne-eqb, not-false, not-true}
 use Rattle.calculus.proofs.Tests.{both, never, either}
 use Rattle.calculus.specs.declared.answer.Loss.{Loss}
 use Rattle.calculus.specs.declared.effect.Effect.{Effect}
@@ -27,9 +27,10 @@ use Rattle.model.specs.Lists.{All}
 use Rattle.model.specs.Network.{isGateway, nextHop, hasAllNeeded}
 use Rattle.model.specs.Packet.{bare, under}
 use Rattle.model.specs.Row.{held, newest, admits}
-use Rattle.model.specs.Rules.{lost, writes, begin, discovers, headerTo, unprotected, onward, wireRule, outRule, upRule, sameVia, agrees, received, inRule, estRule, authRule, grantRule, acknowledged, ackRule, rule}
+use Rattle.model.specs.Rules.{lost, writes, isExhausted, begin, discovers, headerTo, unprotected, onward, wireRule, outRule, upRule, sameVia, agrees, received, inRule, estRule, authRule, grantRule, acknowledged, ackRule, rule}
 use Rattle.model.specs.State.{begunAfter, addedRows}
 use Rattle.model.specs.Termination.{hops, waySteps, establishmentSteps, ceiling, isActive}
+use Rattle.model.proofs.Balance.{not-exhausted}
 use Rattle.model.proofs.Named.{Written}
 use Rattle.model.proofs.Trips.{Trip, sent, onWire, Travels, gone, further, comes, travels, trip-some}
 use Rattle.model.proofs.Points.{walk, points, walk-found, walk-on, points-next, after-client, Between, between-next, met-once, Chained, responderOut, responderIn, initiatorOut, initiatorIn, never-tunnelled, passed}
@@ -210,7 +211,7 @@ module _ (net : Network) (standing : ℕ → ℕ → Bool) (t : Part) (n : ℕ) 
     rule-next x (discovering a h w v m f k) =
         let p = bare c d (Disc (point b)) in
         either After (discovers (isGateway net a) d a (Disc (point b)))
-        (λ g. either After (leb 8 b) (λ o. loses (omega arith)) (λ o. begins a h w v f k g (leb-false 8 b o)))
+        (λ g. either After (isExhausted (t .session)) (λ o. loses (omega arith)) (λ o. begins a h w v f k g (not-exhausted (t .session) o)))
         (λ g. either After (eqb a d) (λ o. absurd (not-server a (point b) v g (eqb-true a d o)))
         (λ o. either After (unprotected (isGateway net a) p) (λ o. loses (omega arith))
         (λ o. either After (eqb h 0) (λ z. loses (omega arith))

@@ -75,6 +75,10 @@ lastPoint (Disc p) = p
 lastPoint Done = 0
 lastPoint (Data tag) = 0
 
+-- "with 8 establishments begun"
+abbrev pub isExhausted : Session → Bool
+isExhausted s = leb 8 (s .begun)
+
 -- "begin the next e (from 1), write dwait(a), est(a, p, e)"
 abbrev pub begin : ℕ → ℕ → ℕ → Effect
 begin a p e = record { outcome = WroteTwo (Dwait a) (Est a p e); wait = NoWait; added = NoRows; begins = Next e }
@@ -92,7 +96,7 @@ onward (Found next) p hops = writes (Wire next p (hops - 1))
 unfoldable pub wireRule : Bool → NextHop → Session → ℕ → Packet → ℕ → Effect
 wireRule gateway next s a p h =
     cond (discovers gateway (s .server) a (p .payload))
-    (cond (leb 8 (s .begun)) (lost Exhausted) (begin a (lastPoint (p .payload)) (s .begun + 1)))
+    (cond (isExhausted s) (lost Exhausted) (begin a (lastPoint (p .payload)) (s .begun + 1)))
     (cond (eqb a (target p)) (writes (Up a p))
     (cond (unprotected gateway p) (lost Unprotected)
     (cond (eqb h 0) (lost HopLimit)
