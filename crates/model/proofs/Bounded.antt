@@ -39,7 +39,7 @@ use Rattle.model.proofs.Checks.{checked-either}
 use Rattle.model.proofs.Parts.{Numbered}
 use Rattle.model.proofs.Asked.{ownMove, not-own}
 use Rattle.model.proofs.Sane.{Sane, all-put, all-unused, sane-empty}
-use Rattle.model.proofs.Points.{points, points-next, Between}
+use Rattle.model.proofs.Points.{points, points-next}
 use Rattle.model.proofs.Underway.{Host, Underway, discovering}
 use Rattle.model.proofs.Tracked.{Tracks, Tracked, step-tracked}
 use Rattle.model.proofs.Local.{Seen, seenMove, seenParsed, local, call-own}
@@ -87,9 +87,15 @@ module _ (network : Network) (t : Part) (h : Sane t) (n : ℕ) (k : Tracked netw
   tracks-opening c d u o =
       let i = h .idle u in
       let P = Tracks network c d (t .session .begun) 0 in
-      let none : Between network c d 0 = record { server = λ i m. absurd (omega arith); client = λ i l m. absurd (omega arith) } in
       let first : Underway network c d 0 0 (Wire c (bare c d (Disc c)) 32) =
-      discovering c 32 none (o .apart) (omega arith) (sym (points-next network c d 0 1 refl)) (omega arith) in
+      discovering c 32
+      (record {
+        between = record { server = λ i m. absurd (omega arith); client = λ i l m. absurd (omega arith) };
+        before = o .apart;
+        few = omega arith;
+        arrives = sym (points-next network c d 0 1 refl);
+        leaves = omega arith;
+      }) in
       record {
         few = omega arith;
         items = all-put P (t .items) (nextNumber t) (Wire c (bare c d (Disc c)) 32) (all-unused P (λ e. never e) t h u) (λ e. (o, rw (i .1) first));

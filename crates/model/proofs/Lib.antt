@@ -27,6 +27,7 @@ pub mod Reached
 pub mod Points
 pub mod Trips
 pub mod Underway
+pub mod Advances
 pub mod Tracked
 pub mod Bounded
 pub mod Termination

@@ -4,12 +4,12 @@ use mathlib.Core.Bool.{Bool, true, false, cond, not}
 use mathlib.Core.List.{List, [], _∷_}
 use mathlib.Core.Option.{Option, none, some}
 use mathlib.Core.Logic.{_⊎_, inl, inr}
-use Prim.Native.Nat.{ℕ, zero, suc, _+_, _≤_, _<_}
+use Prim.Native.Nat.{ℕ, suc, _+_, _≤_, _<_}
 use native.Mathlib.Omega.{arith}
 use lib.ListN.{length, getD}
 use borrow.Author.Tests.{le-ltb, lt-leb, eq-eqb, not-true}
 use Rattle.calculus.proofs.Tests.{Way, is, isnt, way, both, never, bounds-within, within-bounds}
-use Rattle.calculus.specs.Number.{within, isSession, isItem}
+use Rattle.calculus.specs.Number.{within, isSession}
 use Rattle.calculus.specs.declared.answer.Refusal.{Refusal}
 use Rattle.calculus.specs.declared.network.Network.{Network}
 use Rattle.calculus.specs.declared.packet.Item.{Item}
@@ -27,7 +27,7 @@ use Rattle.model.specs.State.{fresh, load, blankSlot, isNumbered}
 use Rattle.model.specs.Requests.{Move, refuse, unused, spent, stepped, stepAt, stepMove}
 use Rattle.model.specs.Calls.{Call, call, after, isOwn}
 use Rattle.model.specs.SetUp.{isPending, isSetUpItem, itemAt}
-use Rattle.model.specs.Termination.{ceiling, isAccepted, callCount, setUpSteps, isActive, Settled, stepCall, activeSteps, afterRounds, Terminates, Termination}
+use Rattle.model.specs.Termination.{ceiling, isAccepted, callCount, isActive, Settled, stepCall, activeSteps, afterRounds, Terminates, Termination}
 use Rattle.model.proofs.Checks.{one, checked-either, checked-passed}
 use Rattle.model.proofs.Lists.{all-of-getD, tally-at, place-once}
 use Rattle.model.proofs.Parts.{Numbered}

@@ -32,7 +32,8 @@ use Rattle.model.proofs.Moves.{held-applied}
 use Rattle.model.proofs.Named.{Written}
 use Rattle.model.proofs.Sane.{At, Sane, all-after}
 use Rattle.model.proofs.Points.{Chained, chained-more}
-use Rattle.model.proofs.Underway.{Host, Underway, rule-next}
+use Rattle.model.proofs.Underway.{Host, Underway}
+use Rattle.model.proofs.Advances.{advances}
 
 -- ---- a part that is tracked
 
@@ -144,7 +145,7 @@ module _ (net : Network) (standing : ℕ → ℕ → Bool) (t : Part) (h : Sane 
   active-step : isActive item ≡ true → Tracked net stepped (n + 1)
   active-step e =
       let x = all-get (At (Tracks net _ _ _ n)) (t .items) at blankSlot (k .items) (λ o. never o) e in
-      let next = rule-next net standing t n (x .0) (k .rows) item (x .1) in
+      let next = advances net standing t n (x .0) (k .rows) item (x .1) in
       tracked-later (n + 1) (next .counted)
       (all-map (At Inactive) (At (Later (n + 1))) (λ s q o. never (sym q ∙ o)) rest (others-inactive e))
       (written-map _ (Later (n + 1)) (λ i v o. (x .0, v o)) (effect .outcome) (next .written))

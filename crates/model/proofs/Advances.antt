@@ -1,0 +1,237 @@
+-- Every rule leads from one place of a set-up to another, a step nearer to the end. Assumes nothing.
+use mathlib.Core.Path.{_≡_, refl, sym, subst, ap, _∙_}
+use mathlib.Core.Bool.{Bool, true, false, not, _&&_, _||_, or-true}
+use Prim.Native.Nat.{ℕ, _+_, _-_, _*_, _≤_, _<_}
+use native.Mathlib.Omega.{arith}
+use lib.Dec.{eqb}
+use borrow.Author.Tests.{eqb-true, eqb-false, eq-eqb, ne-eqb, not-false, not-true}
+use Rattle.calculus.proofs.Tests.{both, never, either}
+use Rattle.calculus.specs.declared.answer.Loss.{Loss}
+use Rattle.calculus.specs.declared.effect.Effect.{Effect}
+use Rattle.calculus.specs.declared.network.Network.{Network}
+use Rattle.calculus.specs.declared.network.NextHop.{NextHop}
+use Rattle.calculus.specs.declared.network.NextHop.the-variants.{Found, Missing}
+use Rattle.calculus.specs.declared.number.Spi.{Spi}
+use Rattle.calculus.specs.declared.packet.Payload.the-variants.{Req, Rep, Disc, Done}
+use Rattle.calculus.specs.declared.packet.Header.the-variants.{Tunnel}
+use Rattle.calculus.specs.declared.packet.Packet.{Packet}
+use Rattle.calculus.specs.declared.packet.Via.{Via}
+use Rattle.calculus.specs.declared.packet.Via.the-variants.{Untunnelled, Peer}
+use Rattle.calculus.specs.declared.packet.Item.{Item}
+use Rattle.calculus.specs.declared.packet.Item.the-variants.{Wire, Out, Est}
+use Rattle.calculus.specs.declared.state.Part.{Part}
+use Rattle.model.specs.Lists.{All}
+use Rattle.model.specs.Network.{isGateway, nextHop, hasAllNeeded}
+use Rattle.model.specs.Packet.{bare, under}
+use Rattle.model.specs.Row.{held, newest, admits}
+use Rattle.model.specs.Rules.{lost, writes, isExhausted, begin, discovers, headerTo, unprotected, onward, wireRule, outRule, upRule, sameVia, agrees, received, inRule, estRule, authRule, grantRule, acknowledged, ackRule, rule}
+use Rattle.model.specs.State.{begunAfter, addedRows}
+use Rattle.model.specs.Termination.{waySteps, ceiling, isActive}
+use Rattle.model.proofs.Balance.{not-exhausted}
+use Rattle.model.proofs.Named.{Written}
+use Rattle.model.proofs.Trips.{Trip, sent, onWire, Travels, gone, further, comes, travels, trip-some}
+use Rattle.model.proofs.Underway.{Leaves, Host, Discovering, Begun, Returning, Underway, discovering, establishing, requesting, authorizing, granting, replying, authorized, granted, acknowledging, doneOut, doneOnWire, doneUp, doneIn, doneBare}
+use Rattle.model.proofs.Points.{points, walk-found, walk-on, points-next, after-client, between-next, met-once, Chained, responderOut, responderIn, initiatorOut, initiatorIn, never-tunnelled, passed}
+
+-- it is counted, the item written is under way again, and the rows added are of the chain
+pub record Next (net : Network) (c d b n : ℕ) (f : Effect) : Type 0 where
+  pub counted : n + 1 ≤ ceiling
+  pub written : Written (λ i. isActive i ≡ true → Underway net c d (begunAfter b (f .begins)) (n + 1) i) (f .outcome)
+  pub added : All (Chained net c d (begunAfter b (f .begins))) (addedRows (f .added))
+
+same-via : (v : Via) (x : ℕ) → sameVia v (Peer x) ≡ true → v ≡ Peer x
+same-via Untunnelled x e = never e
+same-via (Peer q) x e = ap Peer (eqb-true q x e)
+
+module _ (net : Network) (standing : ℕ → ℕ → Bool) (t : Part) (n : ℕ) where
+  abbrev c : ℕ
+  c = t .session .client
+
+  abbrev d : ℕ
+  d = t .session .server
+
+  abbrev b : ℕ
+  b = t .session .begun
+
+  abbrev point : ℕ → ℕ
+  point i = points net c d i
+
+  abbrev Place : Item → Type 0
+  Place i = Underway net c d b (n + 1) i
+
+  abbrev After : Effect → Type 0
+  After f = Next net c d b n f
+
+  module _ (host : Host net c d) (rows : All (Chained net c d b) (held t)) where
+    loses : {x : Loss} → n + 1 ≤ ceiling → After (lost x)
+    loses h = record { counted = h; written = tt; added = tt }
+
+    wrote : {i : Item} → n + 1 ≤ ceiling → Place i → After (writes i)
+    wrote h p = record { counted = h; written = λ o. p; added = tt }
+
+    -- a packet on its way goes on, is lost or is received
+    on-trip : {j : ℕ} {f : Effect} (p : Packet) → n + 1 ≤ ceiling → Travels p j f → ((k : ℕ) (i : Item) → Trip p k i → k < j → Place i)
+        → (1 ≤ j → After (received (p .destination) (p .source) (p .payload))) → After f
+    on-trip p h (gone x) g r = loses h
+    on-trip p h (further k i w m) g r = wrote h (g k i w m)
+    on-trip p h (comes m) g r = r m
+
+    -- a Disc is discovered at the server
+    not-server : (a p : ℕ) → (p ≡ d → ⊥) → discovers (isGateway net a) d a (Disc p) ≡ false → a ≡ d → ⊥
+    not-server a p h e k =
+        let m : discovers (isGateway net a) d a (Disc p) ≡ true = rw (ne-eqb a p (λ w. h (sym w ∙ k)), eq-eqb a d k) (or-true (isGateway net a)) in
+        never (sym e ∙ m)
+
+    -- the client discovers nothing
+    not-client : (a p : ℕ) → discovers (isGateway net a) d a (Disc p) ≡ true → a ≡ c → ⊥
+    not-client a p e k =
+        let m = both (not (eqb a p)) (isGateway net a || eqb a d) e .1 in
+        let w : (isGateway net a || eqb a d) ≡ false = rw (k, host .no-gateway) (ne-eqb c d (host .apart)) in
+        never (sym w ∙ m)
+
+    -- a Disc that nobody discovers at a, and that has hops left
+    onward-disc : (next : NextHop) (a h : ℕ) → Discovering net c d b n a h → discovers (isGateway net a) d a (Disc (point b)) ≡ false
+        → (h ≡ 0 → ⊥) → nextHop net a d ≡ next → After (onward next (bare c d (Disc (point b))) h)
+    onward-disc Missing a h w g z e = loses (omega (arith, w .leaves, w .few))
+    onward-disc (Found next) a h w g z e =
+        wrote (omega (arith, w .leaves, w .few))
+        (discovering next (h - 1)
+        (record {
+          between = w .between;
+          before = w .before;
+          few = w .few;
+          arrives = walk-on net d (point b) h a next z g e ∙ w .arrives;
+          leaves = omega (arith, w .leaves);
+        }))
+
+    -- the node that discovers the Disc is the next point
+    begins : (a h : ℕ) → Discovering net c d b n a h → discovers (isGateway net a) d a (Disc (point b)) ≡ true → b < 8
+        → After (begin a (point b) (b + 1))
+    begins a h w g o =
+        let e : point (b + 1) ≡ a = sym (w .arrives) ∙ walk-found net d (point b) h a g in
+        let begun : Begun net c d (b + 1) b =
+        record {
+          between = between-next net c d b (w .between) (w .before) (λ z. not-client a (point b) g (sym e ∙ z));
+          number = refl;
+          few = omega arith;
+        } in
+        record {
+          counted = omega (arith, w .leaves);
+          written = (
+            λ y. never y,
+            λ y. subst (λ (x : ℕ). Underway net c d (b + 1) (n + 1) (Est x (point b) (b + 1))) e (establishing b begun (omega (arith, w .leaves))),
+          );
+          added = tt;
+        }
+
+    onward-done : (next : NextHop) (x k q : ℕ) (s : Spi) (h : ℕ) → Returning net c d b x k
+        → waySteps * (k - 1) + (h + 3) + n ≤ ceiling → (h ≡ 0 → ⊥) → After (onward next (under (bare d c Done) (Tunnel x q s)) h)
+    onward-done Missing x k q s h w m z = loses (omega arith)
+    onward-done (Found next) x k q s h w m z = wrote (omega arith) (doneOnWire x k q s next (h - 1) w (omega arith))
+
+    -- the ack of the server sends Done, any other the next Disc
+    ack-next : (i : ℕ) → Begun net c d b i → Leaves b n 1 → Place (acknowledged (t .session) (point b))
+    ack-next i w k =
+        either Place (eqb (point b) d)
+        (λ e.
+        doneOut (point b) b
+        (record { between = w .between; server = eqb-true (point b) d e; here = refl; least = omega (arith, w .number); most = omega arith })
+        (omega (arith, w .few)))
+        (λ e.
+        discovering (point b) 32
+        (record {
+          between = w .between;
+          before = eqb-false (point b) d e;
+          few = w .few;
+          arrives = sym (points-next net c d b (b + 1) refl);
+          leaves = omega arith;
+        }))
+
+    -- through the matching tunnel, or bare
+    done-out : (v : Via) (x k : ℕ) → Returning net c d b x k → waySteps * k + n ≤ ceiling → After (writes (Wire x (under (bare d c Done) (headerTo x v)) 32))
+    done-out Untunnelled x k w m = wrote (omega (arith, w .least)) (doneBare (onWire x 32) (omega arith) (omega (arith, w .least)))
+    done-out (Peer q) x k w m = wrote (omega (arith, w .least)) (doneOnWire x k q _ x 32 w (omega (arith, w .least)))
+
+    -- out of the tunnel from x, and on from y, which is the point before
+    done-through : (x k y : ℕ) → Returning net c d b x k → waySteps * (k - 1) + 1 + n ≤ ceiling
+        → agrees (held t) y (bare d c Done) (Peer x) ≡ true → (c ≡ y → ⊥) → After (writes (Out y (bare d c Done)))
+    done-through x k y w m e f =
+        let v = passed net c d b (host .apart) y x (held t) rows (same-via (newest (held t) false y (bare d c Done)) x e) in
+        let same : k ≡ v .number = met-once net c d b (w .between) (w .server) k (v .number) (sym (w .here) ∙ v .far) (w .most) (v .few) in
+        let on : 1 ≤ v .place = after-client net c d (v .place) (λ z. f (sym (v .near ∙ z))) in
+        wrote (omega arith)
+        (doneOut y (v .place)
+        (record { between = w .between; server = w .server; here = v .near; least = on; most = omega (arith, v .follows, v .few) })
+        (omega (arith, v .follows, same)))
+
+    initiator : (i : ℕ) → Begun net c d b i → point b ≡ c → ⊥
+    initiator i w = w .between .client b (omega (arith, w .number)) (omega arith)
+
+    pub advances : (i : Item) → Underway net c d b n i → After (rule net standing t i)
+    unfolding rule wireRule outRule upRule inRule estRule authRule grantRule ackRule
+    advances x (discovering a h w) =
+        let p = bare c d (Disc (point b)) in
+        let few : n + 1 ≤ ceiling = omega (arith, w .leaves, w .few) in
+        either After (discovers (isGateway net a) d a (Disc (point b)))
+        (λ g. either After (isExhausted (t .session)) (λ o. loses few) (λ o. begins a h w g (not-exhausted (t .session) o)))
+        (λ g. either After (eqb a d) (λ o. absurd (not-server a (point b) (w .before) g (eqb-true a d o)))
+        (λ o. either After (unprotected (isGateway net a) p) (λ o. loses few)
+        (λ o. either After (eqb h 0) (λ z. loses few) (λ z. onward-disc (nextHop net a d) a h w g (eqb-false h 0 z) refl))))
+    advances x (establishing i w k) =
+        record { counted = omega arith; written = (λ o. requesting i w sent (omega arith), λ o. never o); added = tt }
+    advances x (requesting i w v k) =
+        let p = bare (point b) (point i) (Req b) in
+        on-trip p (omega arith)
+        (travels net standing t (point b) (point i) (Req b) (λ g u x. refl)
+        (λ m. never-tunnelled net c d b (point b) p i (w .number) (w .between) (eq-eqb b b refl) (λ z. (initiator i w, z)) (held t) rows) v)
+        (λ j x u m. requesting i w u (omega arith))
+        (λ m. wrote (omega arith) (authorizing i w (omega arith)))
+    advances x (authorizing i w k) =
+        either After (hasAllNeeded net (point i) (point b))
+        (λ e. wrote (omega arith) (granting i w (omega arith)))
+        (λ e. record { counted = omega arith; written = tt; added = tt })
+    advances x (granting i w k) =
+        record {
+          counted = omega arith;
+          written = λ o. replying i w sent (omega arith);
+          added = (responderOut i b (w .number) (omega arith), (responderIn i b (w .number) (omega arith), tt));
+        }
+    advances x (replying i w v k) =
+        let p = bare (point i) (point b) (Rep b) in
+        on-trip p (omega arith)
+        (travels net standing t (point i) (point b) (Rep b) (λ g u x. refl)
+        (λ m. never-tunnelled net c d b (point i) p i (w .number) (w .between) (eq-eqb b b refl) (λ z. (z, initiator i w)) (held t) rows) v)
+        (λ j x u m. replying i w u (omega arith))
+        (λ m. record { counted = omega arith; written = λ o. authorized i w (omega arith); added = tt })
+    advances x (authorized i w k) =
+        either After (hasAllNeeded net (point b) (point i))
+        (λ e. wrote (omega arith) (granted i w (omega arith)))
+        (λ e. record { counted = omega arith; written = tt; added = tt })
+    advances x (granted i w k) =
+        record {
+          counted = omega arith;
+          written = λ o. acknowledging i w (omega arith);
+          added = (initiatorOut i b (w .number) (omega arith), (initiatorIn i b (w .number) (omega arith), tt));
+        }
+    advances x (acknowledging i w k) = record { counted = omega arith; written = λ o. ack-next i w k; added = tt }
+    advances i (doneOut x k w m) = done-out (newest (held t) true x (bare d c Done)) x k w m
+    advances i (doneOnWire x k q s y h w m) =
+        let p = under (bare d c Done) (Tunnel x q s) in
+        let few : n + 1 ≤ ceiling = omega arith in
+        either After (eqb y q) (λ e. wrote few (doneUp x k q s y w (omega arith)))
+        (λ e. either After (unprotected (isGateway net y) p) (λ o. loses few)
+        (λ o. either After (eqb h 0) (λ z. loses few) (λ z. onward-done (nextHop net y q) x k q s h w m (eqb-false h 0 z))))
+    advances i (doneUp x k q s y w m) =
+        let few : n + 1 ≤ ceiling = omega arith in
+        either After (standing y x && admits (held t) y x) (λ e. wrote few (doneIn x k y w (omega arith))) (λ e. loses few)
+    advances i (doneIn x k y w m) =
+        let few : n + 1 ≤ ceiling = omega arith in
+        either After (not (agrees (held t) y (bare d c Done) (Peer x))) (λ e. loses few)
+        (λ e. either After (not (eqb c y))
+        (λ f. done-through x k y w m (not-false (agrees (held t) y (bare d c Done) (Peer x)) e) (eqb-false c y (not-true (eqb c y) f)))
+        (λ f. record { counted = few; written = tt; added = tt }))
+    advances i (doneBare v l m) =
+        on-trip (bare d c Done) (omega (arith, trip-some v))
+        (travels net standing t d c Done (λ g u x. refl) (λ o. absurd (omega arith)) v)
+        (λ j x u o. doneBare u (omega arith) (omega arith))
+        (λ o. record { counted = omega arith; written = tt; added = tt })
