@@ -16,7 +16,6 @@ use Rattle.calculus.specs.declared.packet.Payload.the-variants.{Disc}
 use Rattle.calculus.specs.declared.packet.Item.the-variants.{Wire}
 use Rattle.calculus.specs.declared.request.Request as request
 use Rattle.calculus.specs.declared.request.Sender.{Sender}
-use Rattle.calculus.specs.declared.request.Sender.the-variants.{Client, Server}
 use Rattle.calculus.specs.declared.state.Part.{Part}
 use Rattle.calculus.specs.declared.state.State.{State}
 use Rattle.forms.specs.declared.read.Parsed.{Parsed}
@@ -41,7 +40,7 @@ use Rattle.model.proofs.Asked.{ownMove, not-own}
 use Rattle.model.proofs.Sane.{Sane, all-put, all-unused, sane-empty}
 use Rattle.model.proofs.Points.{points, points-next}
 use Rattle.model.proofs.Underway.{Host, Underway, discovering}
-use Rattle.model.proofs.Tracked.{Tracks, Tracked, step-tracked}
+use Rattle.model.proofs.Tracked.{Tracks, Tracked, data-inactive, step-tracked}
 use Rattle.model.proofs.Local.{Seen, seenMove, seenParsed, local, call-own}
 use Rattle.model.proofs.Replies.{call-cases, call-others, call-network, performed-network}
 use Rattle.model.proofs.Reached.{Sound, call-sound, fresh-sound}
@@ -114,11 +113,16 @@ module _ (network : Network) (t : Part) (h : Sane t) (n : ℕ) (k : Tracked netw
 
   tracks-send : (w : Sender) (tag : ℕ) → TracksMove network n (sendMove w tag t)
   unfolding sendMove sending
-  tracks-send w tag = checked-either (TracksMove network n) refuse (λ r. tt) _ (λ e. (refl, sent w))
-    where
-      sent : (w : Sender) → Tracked network (sending t w tag) n
-      sent Client = record { few = k .few; items = all-put _ (t .items) (nextNumber t) _ (k .items) (λ o. never o); rows = k .rows }
-      sent Server = record { few = k .few; items = all-put _ (t .items) (nextNumber t) _ (k .items) (λ o. never o); rows = k .rows }
+  tracks-send w tag =
+      checked-either (TracksMove network n) refuse (λ r. tt) _
+      (λ e. (
+        refl,
+        record {
+          few = k .few;
+          items = all-put _ (t .items) (nextNumber t) _ (k .items) (λ o. never (sym (data-inactive (t .session) w tag) ∙ o));
+          rows = k .rows;
+        },
+      ))
 
   tracks-close : TracksMove network n (closeMove t)
   unfolding closeMove closing

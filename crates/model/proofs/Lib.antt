@@ -30,6 +30,7 @@ pub mod Underway
 pub mod Advances
 pub mod Tracked
 pub mod Bounded
+pub mod Settled
 pub mod Termination
 pub mod Noninterference
 pub mod SetUp

@@ -27,7 +27,7 @@ use Rattle.model.specs.State.{fresh, load, blankSlot, isNumbered}
 use Rattle.model.specs.Requests.{Move, refuse, unused, spent, stepped, stepAt, stepMove}
 use Rattle.model.specs.Calls.{Call, call, after, isOwn}
 use Rattle.model.specs.SetUp.{isPending, isSetUpItem, itemAt}
-use Rattle.model.specs.Termination.{ceiling, isAccepted, callCount, isActive, Settled, stepCall, activeSteps, afterRounds, Terminates, Termination}
+use Rattle.model.specs.Termination.{ceiling, isAccepted, callCount, setUpSteps, isActive, Settled, stepCall, activeSteps, afterRounds, opens, Terminates, Termination}
 use Rattle.model.proofs.Checks.{one, checked-either, checked-passed}
 use Rattle.model.proofs.Lists.{all-of-getD, tally-at, place-once}
 use Rattle.model.proofs.Parts.{Numbered}
@@ -36,7 +36,8 @@ use Rattle.model.proofs.SetUpWeights.{active, space, spare, active-spac
 use Rattle.model.proofs.Sane.{Sane}
 use Rattle.model.proofs.Tracked.{active-one}
 use Rattle.model.proofs.Local.{Seen, seen, seenMove, local, call-own}
-use Rattle.model.proofs.Replies.{numbered, call-others}
+use Rattle.model.proofs.Replies.{numbered}
+use Rattle.model.proofs.Settled.{call-settled, count-grows}
 use Rattle.model.proofs.Bounded.{outcome-accepted, Follows, call-follows, calls-follow, fresh-follows}
 
 -- ---- an item that is neither a wait nor Data is stepped
@@ -180,18 +181,20 @@ module _ (u : ℕ) (q : isSession u ≡ true) where
   unfolding active
   few-active s n f = omega (arith, f .sound .sane u hu .roomy .actives, counted isActive (load s u .items))
 
-  -- others leave the session's items and count
-  others-leave : (cs : List Call) → All (λ c. isOwn u c ≡ false) cs → (s : State) (n : ℕ) → Follows u s n
-      → Follows u (after s cs) n × (load (after s cs) u ≡ load s u)
-  unfolding after
-  others-leave [] a s n f = (f, refl)
-  others-leave (c ∷ cs) a s n f =
-      let r = others-leave cs (a .1) (call s c .state) n (rw (a .0) at (call-follows u hu s n f c)) in
-      (r .0, r .1 ∙ call-others s (f .sound .good) c u hu (a .0))
-
   -- it is settled, or the ceiling leaves k steps at most
   abbrev Ending : State → ℕ → ℕ → Type 0
   Ending s n k = Settled (load s u) ⊎ (ceiling ≤ n + k)
+
+  -- no call but an open takes it further from its end
+  calls-end : (cs : List Call) → All (λ c. opens u c ≡ false) cs → (s : State) (n : ℕ) → Follows u s n → (k : ℕ) → Ending s n k
+      → Ending (after s cs) (setUpSteps u s n cs) k
+  unfolding after setUpSteps
+  calls-end [] a s n f k e = e
+  calls-end (c ∷ cs) a s n f k e = calls-end cs (a .1) (call s c .state) (callCount u s n c) (call-follows u hu s n f c) k (go e)
+    where
+      go : Ending s n k → Ending (call s c .state) (callCount u s n c) k
+      go (inl e) = inl (call-settled u hu s (f .sound) c (a .0) e)
+      go (inr e) = inr (omega (arith, count-grows u hu s (f .sound) c (a .0) n))
 
   -- a round's steps settle it, or one is counted
   round : (P : State → Type 0) (s : State) (n : ℕ) → Follows u s n → (k : ℕ) → Ending s n (suc k) → (cs : List Call) → Steps u (load s u .items) cs
@@ -217,17 +220,17 @@ module _ (u : ℕ) (q : isSession u ≡ true) where
       go cs (noStep z) = z
       go cs (oneStep at b e) = absurd (omega (arith, its-follows s u q n f at b e 65536 (omega arith) l .tracked .few))
 
-  settle : (rounds : List (List Call)) → All (All (λ c. isOwn u c ≡ false)) rounds → (s : State) (n : ℕ) → Follows u s n
+  settle : (rounds : List (List Call)) → All (All (λ c. opens u c ≡ false)) rounds → (s : State) (n : ℕ) → Follows u s n
       → Ending s n (length rounds) → Settled (load (afterRounds u s rounds) u)
   unfolding afterRounds
   settle [] a s n f (inl k) = k
   settle [] a s n f (inr k) = at-ceiling s n f (omega arith)
-  settle (others ∷ rounds) a s n f k =
-      let r = after s others in
+  settle (cs ∷ rounds) a s n f k =
+      let r = after s cs in
       let l = load r u .items in
-      let o = others-leave others (a .0) s n f in
-      round (λ (x : State). Settled (load (afterRounds u x rounds) u)) r n (o .0) (length rounds) (rw (o .1) k)
-      (activeSteps u l) (steps u l (few-active r n (o .0)))
+      let g = calls-follow u hu cs s n f in
+      round (λ (x : State). Settled (load (afterRounds u x rounds) u)) r _ g (length rounds) (calls-end cs (a .0) s n f _ k)
+      (activeSteps u l) (steps u l (few-active r _ g))
       (λ m f k. settle rounds (a .1) _ m f k)
 
   terminates : (cs : List Call) → Terminates cs u

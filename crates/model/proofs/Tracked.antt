@@ -14,13 +14,17 @@ use Rattle.calculus.specs.declared.effect.Effect.{Effect}
 use Rattle.calculus.specs.declared.network.Network.{Network}
 use Rattle.calculus.specs.declared.packet.Item.{Item}
 use Rattle.calculus.specs.declared.packet.Slot.{Slot}
+use Rattle.calculus.specs.declared.request.Sender.{Sender}
+use Rattle.calculus.specs.declared.request.Sender.the-variants.{Client, Server}
 use Rattle.calculus.specs.declared.session.Row.{Row}
+use Rattle.calculus.specs.declared.session.Session.{Session}
 use Rattle.calculus.specs.declared.state.Part.{Part}
 use Rattle.model.specs.Lists.{All}
 use Rattle.model.specs.Item.{isWait}
 use Rattle.model.specs.Row.{held}
 use Rattle.model.specs.Rules.{rule}
 use Rattle.model.specs.State.{blankSlot, begunAfter, addedRows, placed, sessionAfter, applied}
+use Rattle.model.specs.Requests.{dataItem}
 use Rattle.model.specs.SetUp.{isSetUpItem, itemAt}
 use Rattle.model.specs.Termination.{ceiling, isActive}
 use Rattle.model.proofs.Checks.{one}
@@ -49,14 +53,14 @@ pub record Tracked (net : Network) (t : Part) (n : ℕ) : Type 0 where
 
 -- ---- waits and Data
 
-abbrev Inactive : Item → Type 0
+abbrev pub Inactive : Item → Type 0
 Inactive i = isActive i ≡ false
 
 pub active-one : (i : Item) → isActive i ≡ true → active i ≡ 1
 unfolding active
 active-one i e = rw e
 
-inactive-none : (i : Item) → Inactive i → active i ≡ 0
+pub inactive-none : (i : Item) → Inactive i → active i ≡ 0
 unfolding active
 inactive-none i e = rw e
 
@@ -68,7 +72,7 @@ none-inactive i h = go (isActive i) h
     go true h = absurd (omega arith)
     go false h = refl
 
-all-inactive : (l : List Slot) → weigh active l ≡ 0 → All (At Inactive) l
+pub all-inactive : (l : List Slot) → weigh active l ≡ 0 → All (At Inactive) l
 unfolding weigh
 all-inactive [] h = tt
 all-inactive (s ∷ l) h = (none-inactive (s .item) (omega arith), all-inactive l (omega arith))
@@ -82,13 +86,17 @@ module _ (P Q : Item → Type 0) (f : (i : Item) → P i → Q i) where
   written-map Opened h = tt
   written-map (Delivered tag) h = tt
 
-written-inactive : (o : Outcome) → weighOut active o ≤ 0 → Written Inactive o
+pub written-inactive : (o : Outcome) → weighOut active o ≤ 0 → Written Inactive o
 written-inactive (Wrote i) h = none-inactive i (omega arith)
 written-inactive (WroteTwo i j) h = (none-inactive i (omega arith), none-inactive j (omega arith))
 written-inactive (Lost k) h = tt
 written-inactive Denied h = tt
 written-inactive Opened h = tt
 written-inactive (Delivered tag) h = tt
+
+pub data-inactive : (s : Session) (w : Sender) (tag : ℕ) → Inactive (dataItem s w tag)
+data-inactive s Client tag = refl
+data-inactive s Server tag = refl
 
 none-added : (P : Row → Type 0) (f : Added) → length (addedRows f) ≤ 0 → All P (addedRows f)
 none-added P NoRows h = tt

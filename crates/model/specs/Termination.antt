@@ -4,6 +4,7 @@ use mathlib.Core.Path.{_≡_}
 use mathlib.Core.Bool.{Bool, true, false, cond, not, _&&_}
 use mathlib.Core.List.{List, [], _∷_}
 use mathlib.Core.Option.{Option, none, some}
+use lib.Dec.{eqb}
 use lib.ListN.{length}
 use Rattle.calculus.specs.Number.{isSession}
 use Rattle.calculus.specs.declared.answer.Refusal.{Refusal}
@@ -91,12 +92,27 @@ abbrev pub activeSteps : ℕ → List Slot → List Call
 activeSteps u [] = []
 activeSteps u (x ∷ l) = cond (isActive (x .item)) (stepCall u 65536 (x .number .0) ∷ activeSteps u l) (activeSteps u l)
 
--- the state after rounds: in each others call what they like, and then those items are stepped
+-- the state after rounds: in each come calls of anyone, and then those items are stepped
 unfoldable pub afterRounds : ℕ → State → List (List Call) → State
 afterRounds u s [] = s
-afterRounds u s (others ∷ rounds) =
-    let r = after s others in
+afterRounds u s (cs ∷ rounds) =
+    let r = after s cs in
     afterRounds u (after r (activeSteps u (load r u .items))) rounds
+
+-- the line is an open of session u
+abbrev pub formOpens : ℕ → Option Form → Bool
+formOpens u (some (node a k has needs)) = false
+formOpens u (some (route a b next)) = false
+formOpens u (some («open» v c d)) = eqb v u
+formOpens u (some (step v k)) = false
+formOpens u (some (send v w tag)) = false
+formOpens u (some (close v)) = false
+formOpens u (some show) = false
+formOpens u (some net) = false
+formOpens u none = false
+
+abbrev pub opens : ℕ → Call → Bool
+opens u c = formOpens u (read (c .line))
 
 -- ---- the promise
 
@@ -109,8 +125,9 @@ pub record Terminates (cs : List Call) (u : ℕ) : Type 0 where
       let s = after fresh cs in
       let t = load s u in
       spent t ≡ false → All (λ x. isActive (x .item) ≡ true → call s (stepCall u size (x .number .0)) .refusal ≡ none) (t .items)
-  -- "so in the end only waits and Data items are left": after as many rounds as the ceiling leaves steps
-  pub settles : (rounds : List (List Call)) → All (All (λ c. isOwn u c ≡ false)) rounds → ceiling ≤ setUpSteps u fresh 0 cs + length rounds
+  -- "so in the end only waits and Data items are left": after as many rounds as the ceiling leaves steps, whatever is called in them
+  -- but an open that begins anew
+  pub settles : (rounds : List (List Call)) → All (All (λ c. opens u c ≡ false)) rounds → ceiling ≤ setUpSteps u fresh 0 cs + length rounds
       → Settled (load (afterRounds u (after fresh cs) rounds) u)
 
 pub record Termination : Type 0 where
