@@ -5,6 +5,16 @@ use std::collections::BTreeMap;
 
 const HOPS: u64 = 32;
 const MOST_ESTABLISHMENTS: u64 = 8;
+
+/// The most steps that a packet takes on the wire: one at each count of hops left, from all to none.
+const WIRE_STEPS: u64 = HOPS + 1;
+/// The most that it takes from one end of a tunnel to the other, or bare: out, on the wire, up, in.
+const WAY_STEPS: u64 = 1 + WIRE_STEPS + 1 + 1;
+/// Disc on the wire, est, Req, auth, grant, Rep, auth, grant, ack.
+const ESTABLISHMENT_STEPS: u64 = WIRE_STEPS + 1 + WAY_STEPS + 1 + 1 + WAY_STEPS + 1 + 1 + 1;
+/// The ceiling of a set-up's steps (#103): all the establishments, and a Done back through their tunnels.
+pub const CEILING: u64 = MOST_ESTABLISHMENTS * ESTABLISHMENT_STEPS + MOST_ESTABLISHMENTS * WAY_STEPS;
+
 const FIRST_SPI: u64 = 256;
 const SPI_STRIDE: u64 = 32;
 
@@ -74,6 +84,11 @@ impl Item {
             }
             _ => false,
         }
+    }
+
+    /// Whether it is an item of the set-up that can be stepped: neither a wait nor Data.
+    pub fn is_active(&self) -> bool {
+        !self.waits() && !self.holds_data()
     }
 }
 

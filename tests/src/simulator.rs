@@ -36,6 +36,8 @@ pub struct Simulator {
     sessions: BTreeMap<u64, Session>,
     /// the last number of each session that ever wrote an item; a close leaves it
     last: BTreeMap<u64, u64>,
+    /// the accepted steps of each session since its last open, on items that are not Data; a close leaves them (#103)
+    set_up_steps: BTreeMap<u64, u64>,
     opened_once: bool,
 }
 
@@ -56,6 +58,27 @@ impl Simulator {
     /// The session's last number.
     pub fn last(&self, session: u64) -> u64 {
         self.last.get(&session).copied().unwrap_or(0)
+    }
+
+    /// Whether the session's numbers are spent.
+    pub fn spent(&self, session: u64) -> bool {
+        self.last(session) > LAST_WITH_ROOM
+    }
+
+    /// The session's accepted steps since its last open, on items that are not Data: at most the ceiling.
+    pub fn set_up_steps(&self, session: u64) -> u64 {
+        self.set_up_steps.get(&session).copied().unwrap_or(0)
+    }
+
+    /// The session's pending item of this number.
+    pub fn item(&self, session: u64, number: u64) -> Option<&Item> {
+        self.sessions.get(&session)?.items.get(&number)
+    }
+
+    /// The numbers of the session's pending items that are neither a wait nor Data.
+    pub fn active(&self, session: u64) -> Vec<u64> {
+        let items = self.sessions.get(&session).map(|session| &session.items);
+        items.into_iter().flatten().filter(|(_, item)| item.is_active()).map(|(&number, _)| number).collect()
     }
 
     /// The numbers of the session's pending items, waits and others apart: (others, waits).
@@ -108,6 +131,7 @@ impl Simulator {
         let session = Session::new(client, server);
         let first = session.discovery(client);
         self.sessions.insert(number, session);
+        self.set_up_steps.insert(number, 0);
         self.write(number, vec![first])
     }
 
@@ -118,6 +142,9 @@ impl Simulator {
         self.refuse_spent(number)?;
         let session = self.sessions.get_mut(&number).ok_or(Refusal::Idle)?;
         session.items.remove(&item_number);
+        if !item.holds_data() {
+            *self.set_up_steps.entry(number).or_default() += 1;
+        }
         match session.apply(item, &self.network) {
             Outcome::Made(items) => self.write(number, items),
             Outcome::Lost(loss) => one(format!("(lost {loss})")),
@@ -159,7 +186,7 @@ impl Simulator {
     }
 
     fn refuse_spent(&self, session: u64) -> Result<(), Refusal> {
-        refuse(self.last(session) > LAST_WITH_ROOM, Refusal::Spent)
+        refuse(self.spent(session), Refusal::Spent)
     }
 
     /// Gives the items the session's next numbers, in order.

@@ -1,9 +1,11 @@
-//! A session driven to its last number, on the program and on the second implementation: refusal 10 and its place in
-//! the order of refusals.
+//! A session driven to its last number, on the program and on the second implementation: refusal 10, its place in the
+//! order of refusals, and the set-up that it stops (#103).
 
 use simulator_tests::compare::difference;
 use simulator_tests::listing::{exchanges, Listing};
-use simulator_tests::{lines, program};
+use simulator_tests::lists::input;
+use simulator_tests::program;
+use simulator_tests::simulator::Simulator;
 
 const NETWORK: &str = "(node 1 host (has) (needs))\n(node 2 host (has) (needs))\n(node 3 gate (has) (needs))\n\
                        (route 1 2 2)\n(route 2 1 1)\n";
@@ -19,16 +21,19 @@ fn drive_to(last: u64) -> String {
 }
 
 /// Asserts that the program answers these calls as written after session 1 was driven to this last number, and that its
-/// whole output is the second implementation's.
-fn check_after(last: u64, listing: &[(String, String)]) {
+/// whole output is the second implementation's, which is given back.
+fn check_after(last: u64, listing: &[(String, String)]) -> Simulator {
     let calls: String = listing.iter().map(|(call, _)| format!("{call}\n")).collect();
-    let input = [NETWORK, &drive_to(last), &calls].concat();
-    let output = program::run(input.as_bytes());
-    assert_eq!(difference(&lines::run(input.as_bytes()), &output), None);
+    let calls = [NETWORK, &drive_to(last), &calls].concat();
+    let output = program::run(calls.as_bytes());
+    let mut simulator = Simulator::new();
+    let answers: Vec<String> = calls.lines().flat_map(|call| simulator.call(call.as_bytes())).collect();
+    assert_eq!(difference(&input(&answers), &output), None);
     let output = String::from_utf8(output).expect("the output is text");
     let expected: String = listing.iter().map(|(_, answer)| format!("{answer}\n")).collect();
     let written = &output[output.len() - expected.len()..];
     assert_eq!(difference(expected.as_bytes(), written.as_bytes()), None);
+    simulator
 }
 
 /// Sends that make these numbers.
@@ -105,6 +110,18 @@ fn step_to_1000000() {
         ("(show)", "(end)"),
     ]);
     check_after(999_996, &[calls, close_of_spent()].concat());
+}
+
+/// At 999,998 an item of a set-up can be stepped; once the numbers are spent it stays, and its refused steps are not counted.
+#[test]
+fn set_up_of_a_spent_session_stays() {
+    let begin = exchanges(&[("(open 1 1 2)", "(made 999997)"), ("(step 1 999997)", "(made 999998)")]);
+    let spend = exchanges(&[("(step 1 999998)", "(made 999999 1000000)")]);
+    let refused =
+        exchanges(&[("(step 1 1000000)", "(no 10)"), ("(step 1 999999)", "(no 12)"), ("(step 1 1000000)", "(no 10)")]);
+    let state = |simulator: Simulator| (simulator.spent(1), simulator.active(1), simulator.set_up_steps(1));
+    assert_eq!(state(check_after(999_996, &begin)), (false, vec![999_998], 1));
+    assert_eq!(state(check_after(999_996, &[begin, spend, refused].concat())), (true, vec![1_000_000], 2));
 }
 
 /// At 999,998 a send is accepted; then a step is refused though it would only deliver and write nothing.

@@ -1,4 +1,4 @@
-//! Listings A to I of document 01, on both implementations.
+//! Listings A to I of document 01, on both implementations, and the count of #103 on the first three.
 
 use simulator_tests::compare::check;
 use simulator_tests::listing::{exchanges, moves, show, steps, Listing};
@@ -45,6 +45,30 @@ const SET_UP: [(u64, &str); 23] = [
     (25, "(opened)"),
 ];
 
+fn a() -> Listing {
+    exchanges(&[
+        ("(node 1 host (has) (needs))", "(ok)"),
+        ("(node 2 host (has) (needs))", "(ok)"),
+        ("(route 1 2 2)", "(ok)"),
+        ("(open 1 1 2)", "(made 1)"),
+        ("(step 1 1)", "(made 2)"),
+        ("(step 1 2)", "(made 3 4)"),
+        ("(step 1 3)", "(no 12)"),
+        ("(step 1 1)", "(no 11)"),
+        ("(close 1)", "(closed)"),
+        ("(step 1 4)", "(no 7)"),
+        ("(open 1 1 2)", "(made 5)"),
+    ])
+}
+
+fn b() -> Listing {
+    [pair(), opened(1)].concat()
+}
+
+fn c() -> Listing {
+    [pair(), half_open(), early_data()].concat()
+}
+
 fn opened(session: u64) -> Listing {
     [open(session), steps(session, &SET_UP)].concat()
 }
@@ -61,35 +85,29 @@ fn early_data() -> Listing {
     [send, data].concat()
 }
 
+/// The second implementation after these calls.
+fn after(listing: &[(String, String)]) -> Simulator {
+    let mut simulator = Simulator::new();
+    for (call, _) in listing {
+        simulator.call(call.as_bytes());
+    }
+    simulator
+}
+
 #[test]
 fn a_waits_used_up_items_and_reopening() {
-    check(&[
-        ("(node 1 host (has) (needs))", "(ok)"),
-        ("(node 2 host (has) (needs))", "(ok)"),
-        ("(route 1 2 2)", "(ok)"),
-        ("(open 1 1 2)", "(made 1)"),
-        ("(step 1 1)", "(made 2)"),
-        ("(step 1 2)", "(made 3 4)"),
-        ("(step 1 3)", "(no 12)"),
-        ("(step 1 1)", "(no 11)"),
-        ("(close 1)", "(closed)"),
-        ("(step 1 4)", "(no 7)"),
-        ("(open 1 1 2)", "(made 5)"),
-    ]);
+    check(&a());
 }
 
 #[test]
 fn b_item_25_opens() {
-    check(&[pair(), opened(1)].concat());
+    check(&b());
 }
 
 /// The steps written down for B are those of the lowest item that is no wait.
 #[test]
 fn b_steps_the_lowest_item() {
-    let mut simulator = Simulator::new();
-    for (call, _) in [pair(), open(1)].concat() {
-        simulator.call(call.as_bytes());
-    }
+    let mut simulator = after(&[pair(), open(1)].concat());
     for (item, _) in SET_UP {
         assert_eq!(simulator.pending(1).0.first(), Some(&item));
         simulator.call(format!("(step 1 {item})").as_bytes());
@@ -99,7 +117,7 @@ fn b_steps_the_lowest_item() {
 
 #[test]
 fn c_data_before_the_initiators_grant_is_lost() {
-    check(&[pair(), half_open(), early_data()].concat());
+    check(&c());
 }
 
 #[test]
@@ -111,11 +129,8 @@ fn d_another_sessions_association_does_not_help() {
 fn e_data_from_before_any_row_is_lost() {
     // Items 2 and 3 are the data, so the set-up's numbers after 1 are two higher.
     let data = exchanges(&[("(send 1 0 77)", "(made 2)"), ("(step 1 2)", "(made 3)")]);
-    let mut simulator = Simulator::new();
     let mut calls = [pair(), open(1), data].concat();
-    for (call, _) in &calls {
-        simulator.call(call.as_bytes());
-    }
+    let mut simulator = after(&calls);
     while let Some(&item) = simulator.pending(1).0.iter().find(|&&item| item != 3) {
         let call = format!("(step 1 {item})");
         let answer = simulator.call(call.as_bytes()).concat();
@@ -167,4 +182,16 @@ fn h_users_are_counted_over_sessions() {
 #[test]
 fn i_node_32_is_the_last() {
     check(&[("(node 32 host (has) (needs))", "(ok)"), ("(node 33 host (has) (needs))", "(no 2)")]);
+}
+
+/// The open at A's end counts anew, all of B's steps count, and C's five of Data do not. A refused step and a close change
+/// nothing.
+#[test]
+fn steps_since_the_open() {
+    let steps = |listing: &[(String, String)]| after(listing).set_up_steps(1);
+    let a = a();
+    let after_each_from_the_open: Vec<u64> = (4..=a.len()).map(|calls| steps(&a[..calls])).collect();
+    assert_eq!(after_each_from_the_open, [0, 1, 2, 2, 2, 2, 2, 0]);
+    assert_eq!(steps(&b()), 23);
+    assert_eq!(steps(&c()), 10);
 }
