@@ -1,5 +1,6 @@
-//! Deterministic random numbers, the settings that choose others, and the run over many indexes.
+//! Deterministic random numbers, the settings that choose others, the run over many indexes, and what the runs met.
 
+use std::collections::BTreeMap;
 use std::thread;
 
 /// splitmix64
@@ -58,4 +59,15 @@ pub fn for_each_index<T: Send>(count: u64, work: impl Fn(u64) -> T + Sync) -> Ve
         let halves = [half(0), half(1)];
         halves.into_iter().flat_map(|half| half.join().expect("each index passes")).collect()
     })
+}
+
+/// Prints how many runs met each kind, and asserts, of enough runs, that each of the kinds named with `|` between was met.
+pub fn check_met(met: impl IntoIterator<Item = String>, kinds: &str, enough: bool) {
+    let mut runs: BTreeMap<String, u64> = BTreeMap::new();
+    for kind in met {
+        *runs.entry(kind).or_default() += 1;
+    }
+    println!("{runs:?}");
+    let missing: Vec<_> = kinds.split('|').filter(|&kind| !runs.contains_key(kind)).collect();
+    assert!(!enough || missing.is_empty(), "never met: {missing:?}");
 }

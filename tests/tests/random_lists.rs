@@ -4,16 +4,13 @@
 use simulator_tests::compare::difference_from_list;
 use simulator_tests::lists::{list, LateNetwork};
 use simulator_tests::program;
-use simulator_tests::random::{for_each_index, setting};
-use std::collections::{BTreeMap, BTreeSet};
+use simulator_tests::random::{check_met, for_each_index, setting};
+use std::collections::BTreeSet;
 use std::path::PathBuf;
 
 const CALLS: usize = 400;
 
-/// In how many lists each kind of answer, and of neighbours in a show, was met.
-type Met = BTreeMap<String, u64>;
-
-/// Every kind that lists of this length meet. Refusal 10 needs a session at its last number and is met in the test of
+/// Every kind of answer, and of neighbours in a show, that lists of this length meet. Refusal 10 needs a session at its last number and is met in the test of
 /// that; refusal 0 is tested by a program of its own, since this one always lends enough output.
 const KINDS: &str = "(ok)|(made _)|(made _ _)|(lost 1)|(lost 2)|(lost 3)|(lost 4)|(lost 5)|(lost 6)|(denied)|(opened)|\
     (delivered _)|(closed)|(assoc _ in _ _ _)|(assoc _ out _ _ _)|(end)|(node _ host)|(node _ gate)|(route _ _ _)|\
@@ -24,15 +21,8 @@ const KINDS: &str = "(ok)|(made _)|(made _ _)|(lost 1)|(lost 2)|(lost 3)|(lost 4
 #[test]
 fn program_answers_as_the_second_implementation() {
     let (seed, count) = (setting("SEED", 1), setting("COUNT", 2000));
-    let mut met = Met::new();
-    for kind in for_each_index(count, |index| compare(seed, index)).into_iter().flatten() {
-        *met.entry(kind).or_default() += 1;
-    }
-    println!("{met:?}");
-    if count >= 500 {
-        let missing: Vec<_> = KINDS.split('|').filter(|&kind| !met.contains_key(kind)).collect();
-        assert!(missing.is_empty(), "never met: {missing:?}");
-    }
+    let met = for_each_index(count, |index| compare(seed, index)).into_iter().flatten();
+    check_met(met, KINDS, count >= 500);
 }
 
 /// Compares one list; gives the kinds of the program's answers and of neighbours in its shows.
