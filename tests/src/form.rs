@@ -5,8 +5,8 @@ use std::ops::RangeInclusive;
 /// The most bytes that a line may have before its newline.
 pub const LONGEST: usize = 400;
 
-const NODES: RangeInclusive<u64> = 1..=32;
-const SESSIONS: RangeInclusive<u64> = 1..=8;
+pub const NODES: RangeInclusive<u64> = 1..=32;
+pub const SESSIONS: RangeInclusive<u64> = 1..=8;
 const ITEMS: RangeInclusive<u64> = 1..=1_000_000;
 const SIDES: RangeInclusive<u64> = 0..=1;
 const TAGS: RangeInclusive<u64> = 0..=4_294_967_295;

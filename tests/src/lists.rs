@@ -1,7 +1,9 @@
 //! Random lists of calls. Each call is run on the second implementation as it is chosen, so that the next one can follow
 //! what is pending there.
 
+use crate::calculus::CEILING;
 use crate::damage::damaged;
+use crate::form::SESSIONS;
 use crate::network::{route_form, Node};
 use crate::random::Random;
 use crate::simulator::Simulator;
@@ -42,16 +44,26 @@ pub fn list(seed: u64, index: u64, length: usize, late: LateNetwork) -> List {
     // Of 100 calls, how many step the lowest item, and how many any item. Only the first get far.
     let (lowest, any) = random.pick(&[(96, 2), (90, 7), (60, 30), (15, 75), (10, 20)]);
     let sessions = random.pick(&[1, 1, 2, 2, 3, 5, 8]);
-    let mut generator =
-        Generator { random, simulator: Simulator::new(), topology, list: List::default(), lowest, any, sessions, late };
+    let mut generator = Generator::new(random, topology, (lowest, any), sessions, late);
     generator.give_network();
     if generator.random.one_in(2) {
         generator.drive_set_up();
     }
-    let end = generator.list.calls.len() + length;
-    while generator.list.calls.len() < end {
-        generator.next_call();
-    }
+    generator.next_calls(length);
+    generator.list
+}
+
+/// The list of this seed and index: set-ups over detours, mixed with other calls, and at last driven to their ends.
+pub fn set_ups(seed: u64, index: u64) -> List {
+    let mut random = Random::new(seed, index);
+    let topology = Topology::detours(&mut random);
+    let mix = random.pick(&[(96, 2), (85, 10)]);
+    let sessions = random.pick(&[1, 2, 4, 8]);
+    let length = random.pick(&[50, 500, 2000]);
+    let mut generator = Generator::new(random, topology, mix, sessions, LateNetwork::No);
+    generator.give_network();
+    generator.next_calls(length);
+    generator.drive_to_ends();
     generator.list
 }
 
@@ -73,6 +85,11 @@ const EDGES: [u64; 21] = [
 ];
 
 impl Generator {
+    fn new(random: Random, topology: Topology, mix: (u64, u64), sessions: u64, late: LateNetwork) -> Self {
+        let (lowest, any) = mix;
+        Generator { random, simulator: Simulator::new(), topology, list: List::default(), lowest, any, sessions, late }
+    }
+
     fn give_network(&mut self) {
         for call in std::mem::take(&mut self.topology.calls) {
             if self.late == LateNetwork::Yes && self.random.one_in(30) {
@@ -95,6 +112,10 @@ impl Generator {
         let line = line.as_ref();
         self.list.answers.push(self.simulator.call(line));
         self.list.calls.push(line.to_vec());
+        assert!(
+            SESSIONS.into_iter().all(|session| self.simulator.set_up_steps(session) <= CEILING),
+            "the ceiling is passed"
+        );
     }
 
     /// Drives one session as far as its set-up goes: purely random steps seldom get there.
@@ -103,6 +124,30 @@ impl Generator {
         self.open(session);
         while let Some(&item) = self.simulator.pending(session).0.first() {
             self.step(session, item);
+        }
+    }
+
+    /// Drives every set-up to its end, in any order and with odd steps between, until no session has an active item.
+    fn drive_to_ends(&mut self) {
+        loop {
+            let under_way: Vec<u64> = SESSIONS.filter(|&session| !self.simulator.active(session).is_empty()).collect();
+            if under_way.is_empty() {
+                return;
+            }
+            let session = self.random.pick(&under_way);
+            if self.random.one_in(20) {
+                self.step_oddly(session);
+            } else {
+                let item = self.random.pick(&self.simulator.active(session));
+                self.step(session, item);
+            }
+        }
+    }
+
+    fn next_calls(&mut self, length: usize) {
+        let end = self.list.calls.len() + length;
+        while self.list.calls.len() < end {
+            self.next_call();
         }
     }
 

@@ -49,9 +49,7 @@ impl Topology {
             Shape::MixedChain | Shape::Tree => 3 + random.index(6),
             Shape::Wild => 2 + random.index(5),
         };
-        let mut nodes: Vec<u64> = (1..=32).collect();
-        random.shuffle(&mut nodes);
-        nodes.truncate(size);
+        let nodes = some_nodes(random, size);
         let gateways = gateways(random, shape, size);
         let mut calls = node_calls(random, &nodes, &gateways);
         calls.extend(route_calls(random, shape, &nodes));
@@ -59,9 +57,62 @@ impl Topology {
             // some routes come before their nodes and are refused
             random.shuffle(&mut calls);
         }
+        Self::of(nodes, &gateways, calls)
+    }
+
+    /// Up to eight gateways and up to 32 nodes in all; the way to each destination goes through all of the others, in an
+    /// order of its own.
+    pub fn detours(random: &mut Random) -> Self {
+        let inner_gateways = random.index(9);
+        let size = if random.one_in(2) { 32 } else { inner_gateways + 2 + random.index(31 - inner_gateways) };
+        let nodes = some_nodes(random, size);
+        let gateways: Vec<bool> = (0..size).map(|place| (1..=inner_gateways).contains(&place)).collect();
+        let mut calls = node_calls(random, &nodes, &gateways);
+        // to one destination in so many the way ends early, or leads into a circle
+        let fault = random.pick(&[1_000_000, 1_000_000, 20, 5]);
+        for &destination in &nodes {
+            let path = detour(random, &nodes, destination, fault);
+            calls.extend(routes_along(&path, destination));
+        }
+        Self::of(nodes, &gateways, calls)
+    }
+
+    fn of(nodes: Vec<u64>, gateways: &[bool], calls: Vec<String>) -> Self {
+        let size = nodes.len();
         let hosts = (0..size).filter(|&place| !gateways[place]).map(|place| nodes[place]).collect();
         Topology { ends: (nodes[0], nodes[size - 1]), nodes, hosts, calls }
     }
+}
+
+/// So many nodes, in any order.
+fn some_nodes(random: &mut Random, size: usize) -> Vec<u64> {
+    let mut nodes: Vec<u64> = (1..=32).collect();
+    random.shuffle(&mut nodes);
+    nodes.truncate(size);
+    nodes
+}
+
+/// A way to the destination through all the other nodes, or its beginning. That to the last node begins at the first, so that
+/// discovery between these ends goes all of it.
+fn detour(random: &mut Random, nodes: &[u64], destination: u64, fault: u64) -> Vec<u64> {
+    let mut path: Vec<u64> = nodes.iter().copied().filter(|&node| node != destination).collect();
+    let kept = usize::from(nodes.last() == Some(&destination));
+    random.shuffle(&mut path[kept..]);
+    if !random.one_in(fault) {
+        path.push(destination);
+        return path;
+    }
+    path.truncate(1 + random.index(path.len()));
+    if random.one_in(2) && path.len() > 1 {
+        let earlier = random.pick(&path[..path.len() - 1]);
+        path.push(earlier);
+    }
+    path
+}
+
+/// The routes to the destination from each node of the path to the next one.
+pub fn routes_along(path: &[u64], destination: u64) -> Vec<String> {
+    path.windows(2).map(|pair| route_form(pair[0], destination, pair[1])).collect()
 }
 
 /// Whether each place is a gateway; the first and the last are hosts.
