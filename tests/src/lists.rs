@@ -127,9 +127,12 @@ impl Generator {
         }
     }
 
-    /// Drives every set-up to its end, in any order and with odd steps between, until no session has an active item.
+    /// Drives every set-up to its end, in any order and with odd steps between, until no session has an active item: by the
+    /// ceiling there is an end, and what goes past it is for the test to see.
     fn drive_to_ends(&mut self) {
-        loop {
+        let most_steps = CEILING * *SESSIONS.end();
+        let most_odd_steps = most_steps;
+        for _ in 0..most_steps + most_odd_steps {
             let under_way: Vec<u64> = SESSIONS.filter(|&session| !self.simulator.active(session).is_empty()).collect();
             if under_way.is_empty() {
                 return;

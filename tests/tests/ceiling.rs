@@ -170,13 +170,11 @@ impl Watch {
         }
     }
 
-    /// Steps every set-up in turn until nothing of any can be stepped.
+    /// Steps every set-up in turn, as often as the ceiling allows.
     fn drive(&mut self) {
-        while SESSIONS.into_iter().any(|session| self.under_way(session)) {
-            for session in SESSIONS {
-                if let Some(item) = self.simulator.active(session).first() {
-                    self.call(format!("(step {session} {item})"));
-                }
+        for session in (0..CEILING).flat_map(|_| SESSIONS) {
+            if let Some(item) = self.simulator.active(session).first() {
+                self.call(format!("(step {session} {item})"));
             }
         }
     }
