@@ -10,8 +10,9 @@ use std::path::PathBuf;
 
 const CALLS: usize = 400;
 
-/// Every kind of answer, and of neighbours in a show, that lists of this length meet. Refusal 10 needs a session at its last number and is met in the test of
-/// that; refusal 0 is tested by a program of its own, since this one always lends enough output.
+/// Every kind of answer, and of neighbours in a show, that lists of this length meet. Refusal 10 needs a session at its
+/// last number and is met in the test of that; refusal 0 is tested by a program of its own, since this one always lends
+/// enough output.
 const KINDS: &str = "(ok)|(made _)|(made _ _)|(lost 1)|(lost 2)|(lost 3)|(lost 4)|(lost 5)|(lost 6)|(denied)|(opened)|\
     (delivered _)|(closed)|(assoc _ in _ _ _)|(assoc _ out _ _ _)|(end)|(node _ host)|(node _ gate)|(route _ _ _)|\
     nothing|(no 1)|(no 2)|(no 3)|(no 4)|(no 5)|(no 6)|(no 7)|(no 8)|(no 9)|(no 11)|(no 12)|(no 13)|\
