@@ -1,6 +1,6 @@
 -- Tests that compute, and what they say. For every crate. Assumes nothing.
 use mathlib.Core.Path.{_≡_, refl, sym, _∙_}
-use mathlib.Core.Bool.{Bool, true, false, cond, _&&_}
+use mathlib.Core.Bool.{Bool, true, false, cond, _&&_, _||_}
 use Prim.Native.Nat.{ℕ, _≤_}
 use native.Mathlib.Omega.{arith}
 use lib.Dec.{leb}
@@ -40,6 +40,11 @@ not-so false h = refl
 pub both : (a b : Bool) → (a && b) ≡ true → (a ≡ true) × (b ≡ true)
 both true b e = (refl, e)
 both false b e = never e
+
+-- neither side of a disjunction
+pub neither : (a b : Bool) → (a || b) ≡ false → (a ≡ false) × (b ≡ false)
+neither true b e = never (sym e)
+neither false b e = (refl, e)
 
 pub bounds-within : (low high n : ℕ) → low ≤ n → n ≤ high → within low high n ≡ true
 bounds-within low high n h g = rw (le-leb low n h, le-leb n high g)

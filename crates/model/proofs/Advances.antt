@@ -1,6 +1,6 @@
 -- Every rule leads from one place of a set-up to another, a step nearer to the end. Assumes nothing.
 use mathlib.Core.Path.{_≡_, refl, sym, subst, ap, _∙_}
-use mathlib.Core.Bool.{Bool, true, false, not, _&&_, _||_, or-true}
+use mathlib.Core.Bool.{Bool, true, false, not, _&&_, _||_}
 use Prim.Native.Nat.{ℕ, _+_, _-_, _*_, _≤_, _<_}
 use native.Mathlib.Omega.{arith}
 use lib.Dec.{eqb}
@@ -26,11 +26,11 @@ use Rattle.model.specs.Packet.{bare, under}
 use Rattle.model.specs.Row.{held, newest, admits}
 use Rattle.model.specs.Rules.{lost, writes, isExhausted, begin, discovers, headerTo, unprotected, onward, wireRule, outRule, upRule, sameVia, agrees, received, inRule, estRule, authRule, grantRule, acknowledged, ackRule, rule}
 use Rattle.model.specs.State.{begunAfter, addedRows}
-use Rattle.model.specs.Termination.{waySteps, ceiling, isActive}
-use Rattle.model.proofs.Balance.{not-exhausted}
+use Rattle.model.specs.Termination.{tripSteps, ceiling, isActive}
+use Rattle.model.proofs.Discovers.{server-discovers, not-exhausted}
 use Rattle.model.proofs.Named.{Written}
 use Rattle.model.proofs.Trips.{Trip, sent, onWire, Travels, gone, further, comes, travels, trip-some}
-use Rattle.model.proofs.Underway.{Leaves, Host, Discovering, Begun, Returning, Underway, discovering, establishing, requesting, authorizing, granting, replying, authorized, granted, acknowledging, doneOut, doneOnWire, doneUp, doneIn, doneBare}
+use Rattle.model.proofs.Underway.{Leaves, Ends, Discovering, Begun, Returning, Underway, discovering, establishing, requesting, responderAuth, responderGrant, replying, initiatorAuth, initiatorGrant, acknowledging, doneOut, doneOnWire, doneUp, doneIn, doneBare}
 use Rattle.model.proofs.Points.{points, walk-found, walk-on, points-next, after-client, between-next, met-once, Chained, responderOut, responderIn, initiatorOut, initiatorIn, never-tunnelled, passed}
 
 -- it is counted, the item written is under way again, and the rows added are of the chain
@@ -62,7 +62,7 @@ module _ (net : Network) (standing : ℕ → ℕ → Bool) (t : Part) (n : ℕ) 
   abbrev After : Effect → Type 0
   After f = Next net c d b n f
 
-  module _ (host : Host net c d) (rows : All (Chained net c d b) (held t)) where
+  module _ (ends : Ends net c d) (rows : All (Chained net c d b) (held t)) where
     loses : {x : Loss} → n + 1 ≤ ceiling → After (lost x)
     loses h = record { counted = h; written = tt; added = tt }
 
@@ -71,22 +71,16 @@ module _ (net : Network) (standing : ℕ → ℕ → Bool) (t : Part) (n : ℕ) 
 
     -- a packet on its way goes on, is lost or is received
     on-trip : {j : ℕ} {f : Effect} (p : Packet) → n + 1 ≤ ceiling → Travels p j f → ((k : ℕ) (i : Item) → Trip p k i → k < j → Place i)
-        → (1 ≤ j → After (received (p .destination) (p .source) (p .payload))) → After f
+        → After (received (p .destination) (p .source) (p .payload)) → After f
     on-trip p h (gone x) g r = loses h
     on-trip p h (further k i w m) g r = wrote h (g k i w m)
-    on-trip p h (comes m) g r = r m
-
-    -- a Disc is discovered at the server
-    not-server : (a p : ℕ) → (p ≡ d → ⊥) → discovers (isGateway net a) d a (Disc p) ≡ false → a ≡ d → ⊥
-    not-server a p h e k =
-        let m : discovers (isGateway net a) d a (Disc p) ≡ true = rw (ne-eqb a p (λ w. h (sym w ∙ k)), eq-eqb a d k) (or-true (isGateway net a)) in
-        never (sym e ∙ m)
+    on-trip p h comes g r = r
 
     -- the client discovers nothing
     not-client : (a p : ℕ) → discovers (isGateway net a) d a (Disc p) ≡ true → a ≡ c → ⊥
     not-client a p e k =
         let m = both (not (eqb a p)) (isGateway net a || eqb a d) e .1 in
-        let w : (isGateway net a || eqb a d) ≡ false = rw (k, host .no-gateway) (ne-eqb c d (host .apart)) in
+        let w : (isGateway net a || eqb a d) ≡ false = rw (k, ends .no-gateway) (ne-eqb c d (ends .apart)) in
         never (sym w ∙ m)
 
     -- a Disc that nobody discovers at a, and that has hops left
@@ -125,7 +119,7 @@ module _ (net : Network) (standing : ℕ → ℕ → Bool) (t : Part) (n : ℕ) 
         }
 
     onward-done : (next : NextHop) (x k q : ℕ) (s : Spi) (h : ℕ) → Returning net c d b x k
-        → waySteps * (k - 1) + (h + 3) + n ≤ ceiling → (h ≡ 0 → ⊥) → After (onward next (under (bare d c Done) (Tunnel x q s)) h)
+        → tripSteps * (k - 1) + (h + 3) + n ≤ ceiling → (h ≡ 0 → ⊥) → After (onward next (under (bare d c Done) (Tunnel x q s)) h)
     onward-done Missing x k q s h w m z = loses (omega arith)
     onward-done (Found next) x k q s h w m z = wrote (omega arith) (doneOnWire x k q s next (h - 1) w (omega arith))
 
@@ -148,15 +142,15 @@ module _ (net : Network) (standing : ℕ → ℕ → Bool) (t : Part) (n : ℕ) 
         }))
 
     -- through the matching tunnel, or bare
-    done-out : (v : Via) (x k : ℕ) → Returning net c d b x k → waySteps * k + n ≤ ceiling → After (writes (Wire x (under (bare d c Done) (headerTo x v)) 32))
+    done-out : (v : Via) (x k : ℕ) → Returning net c d b x k → tripSteps * k + n ≤ ceiling → After (writes (Wire x (under (bare d c Done) (headerTo x v)) 32))
     done-out Untunnelled x k w m = wrote (omega (arith, w .least)) (doneBare (onWire x 32) (omega arith) (omega (arith, w .least)))
     done-out (Peer q) x k w m = wrote (omega (arith, w .least)) (doneOnWire x k q _ x 32 w (omega (arith, w .least)))
 
     -- out of the tunnel from x, and on from y, which is the point before
-    done-through : (x k y : ℕ) → Returning net c d b x k → waySteps * (k - 1) + 1 + n ≤ ceiling
+    done-through : (x k y : ℕ) → Returning net c d b x k → tripSteps * (k - 1) + 1 + n ≤ ceiling
         → agrees (held t) y (bare d c Done) (Peer x) ≡ true → (c ≡ y → ⊥) → After (writes (Out y (bare d c Done)))
     done-through x k y w m e f =
-        let v = passed net c d b (host .apart) y x (held t) rows (same-via (newest (held t) false y (bare d c Done)) x e) in
+        let v = passed net c d b (ends .apart) y x (held t) rows (same-via (newest (held t) false y (bare d c Done)) x e) in
         let same : k ≡ v .number = met-once net c d b (w .between) (w .server) k (v .number) (sym (w .here) ∙ v .far) (w .most) (v .few) in
         let on : 1 ≤ v .place = after-client net c d (v .place) (λ z. f (sym (v .near ∙ z))) in
         wrote (omega arith)
@@ -174,7 +168,10 @@ module _ (net : Network) (standing : ℕ → ℕ → Bool) (t : Part) (n : ℕ) 
         let few : n + 1 ≤ ceiling = omega (arith, w .leaves, w .few) in
         either After (discovers (isGateway net a) d a (Disc (point b)))
         (λ g. either After (isExhausted (t .session)) (λ o. loses few) (λ o. begins a h w g (not-exhausted (t .session) o)))
-        (λ g. either After (eqb a d) (λ o. absurd (not-server a (point b) (w .before) g (eqb-true a d o)))
+        (λ g. either After (eqb a d)
+        (λ o.
+        let e = eqb-true a d o in
+        never (sym g ∙ server-discovers (isGateway net a) d a (point b) (λ y. w .before (sym y ∙ e)) e))
         (λ o. either After (unprotected (isGateway net a) p) (λ o. loses few)
         (λ o. either After (eqb h 0) (λ z. loses few) (λ z. onward-disc (nextHop net a d) a h w g (eqb-false h 0 z) refl))))
     advances x (establishing i w k) =
@@ -185,12 +182,12 @@ module _ (net : Network) (standing : ℕ → ℕ → Bool) (t : Part) (n : ℕ) 
         (travels net standing t (point b) (point i) (Req b) (λ g u x. refl)
         (λ m. never-tunnelled net c d b (point b) p i (w .number) (w .between) (eq-eqb b b refl) (λ z. (initiator i w, z)) (held t) rows) v)
         (λ j x u m. requesting i w u (omega arith))
-        (λ m. wrote (omega arith) (authorizing i w (omega arith)))
-    advances x (authorizing i w k) =
+        (wrote (omega arith) (responderAuth i w (omega (arith, trip-some v))))
+    advances x (responderAuth i w k) =
         either After (hasAllNeeded net (point i) (point b))
-        (λ e. wrote (omega arith) (granting i w (omega arith)))
+        (λ e. wrote (omega arith) (responderGrant i w (omega arith)))
         (λ e. record { counted = omega arith; written = tt; added = tt })
-    advances x (granting i w k) =
+    advances x (responderGrant i w k) =
         record {
           counted = omega arith;
           written = λ o. replying i w sent (omega arith);
@@ -202,12 +199,12 @@ module _ (net : Network) (standing : ℕ → ℕ → Bool) (t : Part) (n : ℕ) 
         (travels net standing t (point i) (point b) (Rep b) (λ g u x. refl)
         (λ m. never-tunnelled net c d b (point i) p i (w .number) (w .between) (eq-eqb b b refl) (λ z. (z, initiator i w)) (held t) rows) v)
         (λ j x u m. replying i w u (omega arith))
-        (λ m. record { counted = omega arith; written = λ o. authorized i w (omega arith); added = tt })
-    advances x (authorized i w k) =
+        (record { counted = omega arith; written = λ o. initiatorAuth i w (omega (arith, trip-some v)); added = tt })
+    advances x (initiatorAuth i w k) =
         either After (hasAllNeeded net (point b) (point i))
-        (λ e. wrote (omega arith) (granted i w (omega arith)))
+        (λ e. wrote (omega arith) (initiatorGrant i w (omega arith)))
         (λ e. record { counted = omega arith; written = tt; added = tt })
-    advances x (granted i w k) =
+    advances x (initiatorGrant i w k) =
         record {
           counted = omega arith;
           written = λ o. acknowledging i w (omega arith);
@@ -234,4 +231,4 @@ module _ (net : Network) (standing : ℕ → ℕ → Bool) (t : Part) (n : ℕ) 
         on-trip (bare d c Done) (omega (arith, trip-some v))
         (travels net standing t d c Done (λ g u x. refl) (λ o. absurd (omega arith)) v)
         (λ j x u o. doneBare u (omega arith) (omega arith))
-        (λ o. record { counted = omega arith; written = tt; added = tt })
+        (record { counted = omega (arith, trip-some v); written = tt; added = tt })

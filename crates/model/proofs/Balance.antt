@@ -1,13 +1,14 @@
--- What each rule does to the weights of a set-up: the waits, the places, the Data items and the rows to come. Assumes nothing.
-use mathlib.Core.Path.{_≡_, refl, sym, subst, ap}
-use mathlib.Core.Bool.{Bool, true, false, not, _&&_}
+-- What each rule does to the weights of a set-up: the waits, the places, the Data items, the items that are neither, and the rows to
+-- come; and what it begins. Assumes nothing.
+use mathlib.Core.Path.{sym, subst, ap}
+use mathlib.Core.Bool.{Bool, true, not, _&&_}
 use mathlib.Core.List.{List}
-use Prim.Native.Nat.{ℕ, _+_, _-_, _*_, _≤_, _<_}
+use Prim.Native.Nat.{ℕ, _+_, _-_, _*_, _≤_}
 use native.Mathlib.Omega.{arith}
 use lib.Dec.{eqb}
 use lib.ListN.{length}
-use borrow.Author.Tests.{not-false, leb-false, eqb-true}
-use Rattle.calculus.proofs.Tests.{never, either}
+use borrow.Author.Tests.{not-false, eqb-true}
+use Rattle.calculus.proofs.Tests.{either}
 use Rattle.calculus.specs.declared.effect.Wait.{Wait}
 use Rattle.calculus.specs.declared.effect.Effect.{Effect}
 use Rattle.calculus.specs.declared.network.Network.{Network}
@@ -33,6 +34,7 @@ use Rattle.model.specs.Rules.{writesFor, discovers, isExhausted, unprote
 use Rattle.model.specs.State.{writtenCount, stageAfter, begunAfter, addedRows}
 use Rattle.model.specs.SetUp.{isPending}
 use Rattle.model.proofs.Checks.{one}
+use Rattle.model.proofs.Discovers.{discovers-disc, not-exhausted}
 use Rattle.model.proofs.Weights.{count, weighOut, weighWait}
 use Rattle.model.proofs.SetUpWeights.{waits, uses, space, carries, active, due, spare, packetSpace, Wanted, wanted}
 
@@ -53,16 +55,6 @@ pub record Law (s : Session) (i : Item) (f : Effect) : Type 0 where
   pub adds : length (addedRows (f .added)) ≤ 2 * active i
   pub begins : (s .begun ≤ begunAfter (s .begun) (f .begins)) × (begunAfter (s .begun) (f .begins) ≤ s .begun + active i)
 
-pub not-exhausted : (s : Session) → isExhausted s ≡ false → s .begun < 8
-not-exhausted s e = leb-false _ (s .begun) e
-
-discovers-space : (gateway : Bool) (server a : ℕ) (y : Payload) → discovers gateway server a y ≡ true → (3 ≤ packetSpace y) × (isData y ≡ false)
-discovers-space gateway server a (Req e) h = never h
-discovers-space gateway server a (Rep e) h = never h
-discovers-space gateway server a (Disc p) h = (omega arith, refl)
-discovers-space gateway server a Done h = never h
-discovers-space gateway server a (Data tag) h = never h
-
 onward-law : (next : NextHop) (s : Session) (a : ℕ) (p : Packet) (h : ℕ) → Law s (Wire a p h) (onward next p h)
 unfolding uses space carries active due
 onward-law Missing s a p h = omega arith
@@ -75,8 +67,8 @@ wire-law gateway next s a p h =
     either P (discovers gateway (s .server) a (p .payload))
     (λ k. either P (isExhausted s) (λ e. omega arith)
     (λ e.
-    let x = discovers-space gateway (s .server) a (p .payload) k in
-    omega (arith, ap (λ (o : Bool). one (not o && true)) (x .1), not-exhausted s e)))
+    let x = discovers-disc gateway (s .server) a (p .payload) k in
+    omega (arith, ap packetSpace x, ap (λ (y : Payload). one (not (isData y) && true)) x, not-exhausted s e)))
     (λ e. either P (eqb a (target p)) (λ e. omega arith)
     (λ e. either P (unprotected gateway p) (λ e. omega arith)
     (λ e. either P (eqb h 0) (λ e. omega arith) (λ e. onward-law next s a p h))))

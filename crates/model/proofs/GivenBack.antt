@@ -22,8 +22,8 @@ use Rattle.forms.proofs.ReadAgain.{net-read}
 use Rattle.model.specs.Lists.{All}
 use Rattle.model.specs.NetworkText.{nodeForm, routeForm, networkForms, networkLines, networkText}
 use Rattle.model.specs.State.{fresh}
-use Rattle.model.specs.Calls.{reported, short, answered, requested, replies}
-use Rattle.model.specs.Texts.{roomyCall, afterLines}
+use Rattle.model.specs.Calls.{reported, short, answered, requested, replies, roomyCall}
+use Rattle.model.specs.Texts.{afterLines}
 use Rattle.model.specs.GivenBack.{IsPlace, Consistent, freshWith, AnsweredOk, GivenBack}
 use Rattle.model.proofs.Lists.{all-of-getD}
 use Rattle.model.proofs.Tables.{only-width, entries-width}

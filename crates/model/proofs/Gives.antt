@@ -20,8 +20,7 @@ use Rattle.forms.proofs.ReadAgain.{node-read, route-read}
 use Rattle.model.specs.Lists.{All}
 use Rattle.model.specs.Network.{given, nextHop}
 use Rattle.model.specs.Requests.{checked, withNode, withRoute, nodeTurn, routeTurn, nodesGiven, leadsBack, isFound}
-use Rattle.model.specs.Calls.{answer, Reply, Call, call, answered, requested, after, replies}
-use Rattle.model.specs.Texts.{roomyCall}
+use Rattle.model.specs.Calls.{answer, Reply, Call, call, answered, requested, after, replies, roomyCall}
 use Rattle.model.specs.GivenBack.{IsPlace, freshWith, AnsweredOk}
 use Rattle.model.proofs.Nodes.{Node, given-node, nodes-given}
 

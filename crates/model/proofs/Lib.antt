@@ -9,10 +9,12 @@ pub mod Users
 pub mod Weights
 pub mod Moves
 pub mod SetUpWeights
+pub mod Discovers
 pub mod Balance
 pub mod Roomy
 pub mod Nodes
 pub mod Consistent
+pub mod Match
 pub mod Named
 pub mod Pending
 pub mod Sane
@@ -24,6 +26,9 @@ pub mod Numbers
 pub mod Alone
 pub mod Fresh
 pub mod Reached
+pub mod Noninterference
+pub mod SetUp
+pub mod Refusals
 pub mod Points
 pub mod Trips
 pub mod Underway
@@ -31,10 +36,8 @@ pub mod Advances
 pub mod Tracked
 pub mod Bounded
 pub mod Settled
+pub mod Progress
 pub mod Termination
-pub mod Noninterference
-pub mod SetUp
-pub mod Refusals
 pub mod ShowLines
 pub mod Alike
 pub mod Show

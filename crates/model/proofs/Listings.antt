@@ -12,9 +12,9 @@ use Rattle.model.specs.Rules.{wireRule, outRule, upRule, inRule, estRule
 use Rattle.model.specs.State.{load, store, useUp, putItem, itemsAfter, sessionAfter, applied}
 use Rattle.model.specs.Requests.{checked, nodeTurn, routeTurn, opening, openMove, stepped, stepAt, stepMove, sending, sendMove, closing, closeMove, changed, performed, shown}
 use Rattle.model.specs.Calls.{requested, answered, replies, after}
-use Rattle.model.specs.Termination.{setUpSteps}
+use Rattle.model.specs.Termination.{setUpSteps, afterRounds}
 use Rattle.model.specs.ListingsHold.{Listings}
 
 pub listings-hold : Listings
-unfolding decimal digitsOf listText text starts scan number list fields hasAt kindAt nodeAt plainForm formOf read answerText associationLine network.nodeAt nextHop covers hasAllNeeded howMany admits usersOf withUsers wireRule outRule upRule inRule estRule authRule grantRule ackRule rule load store useUp putItem itemsAfter sessionAfter applied checked nodeTurn routeTurn opening openMove stepped stepAt stepMove sending sendMove closing closeMove changed performed shown entriesFrom requested answered replies after setUpSteps
-listings-hold = record { aToI = refl; lowestB = refl; lowestF = refl; further = refl; views = refl; steps = refl; furtherSteps = refl }
+unfolding decimal digitsOf listText text starts scan number list fields hasAt kindAt nodeAt plainForm formOf read answerText associationLine network.nodeAt nextHop covers hasAllNeeded howMany admits usersOf withUsers wireRule outRule upRule inRule estRule authRule grantRule ackRule rule load store useUp putItem itemsAfter sessionAfter applied checked nodeTurn routeTurn opening openMove stepped stepAt stepMove sending sendMove closing closeMove changed performed shown entriesFrom requested answered replies after setUpSteps afterRounds
+listings-hold = record { aToI = refl; lowestB = refl; lowestF = refl; further = refl; views = refl; steps = refl; furtherSteps = refl; rounds = refl }

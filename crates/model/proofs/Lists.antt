@@ -1,5 +1,5 @@
 -- What holds of every element of a list, where one is found, and the front of a list after a run of stores. Assumes nothing.
-use mathlib.Core.Path.{_≡_, ap, _∙_}
+use mathlib.Core.Path.{_≡_, refl, ap, _∙_}
 use mathlib.Core.Bool.{Bool, true, false, cond}
 use mathlib.Core.List.{List, [], _∷_, _++_}
 use Prim.Native.Nat.{ℕ, zero, suc, _+_, _≤_, _<_}
@@ -53,6 +53,19 @@ module _ {A : Type 0} (P : A → Type 0) where
 pub all-map : {A : Type 0} (P Q : A → Type 0) → ((x : A) → P x → Q x) → (l : List A) → All P l → All Q l
 all-map P Q f [] h = tt
 all-map P Q f (x ∷ l) h = (f x (h .0), all-map P Q f l (h .1))
+
+module _ {A : Type 0} (f : A → Bool) where
+  pub none-tallied : (l : List A) → tally f l ≡ 0 → All (λ x. f x ≡ false) l
+  none-tallied [] h = tt
+  none-tallied (x ∷ l) h = go (f x) h (none-tallied l)
+    where
+      go : (b : Bool) → one b + tally f l ≡ 0 → (tally f l ≡ 0 → All (λ x. f x ≡ false) l) → (b ≡ false) × All (λ x. f x ≡ false) l
+      go true k g = absurd (omega arith)
+      go false k g = (refl, g (omega arith))
+
+  pub tally-none : (l : List A) → All (λ x. f x ≡ false) l → tally f l ≡ 0
+  tally-none [] h = refl
+  tally-none (x ∷ l) h = rw (h .0) (omega (arith, tally-none l (h .1)))
 
 module _ {A : Type 0} (f : A → Bool) (d : A) where
   pub tally-at : (l : List A) (at : ℕ) → at < length l → f (getD l at d) ≡ true → 1 ≤ tally f l

@@ -10,7 +10,7 @@ use borrow.Author.Tests.{lt-ltb, eqb-true}
 use Rattle.calculus.proofs.Tests.{never}
 use Rattle.calculus.specs.declared.answer.Answer.the-variants.{No}
 use Rattle.calculus.specs.declared.answer.Refusal.{Refusal}
-use Rattle.calculus.specs.declared.answer.Refusal.the-variants.{Short}
+use Rattle.calculus.specs.declared.answer.Refusal.the-variants.{Range, Short}
 use Rattle.calculus.specs.declared.network.Network.{Network}
 use Rattle.calculus.specs.declared.packet.Header.{Header}
 use Rattle.calculus.specs.declared.packet.Header.the-variants.{Bare, Tunnel}
@@ -28,7 +28,7 @@ use Rattle.forms.specs.declared.read.Parsed.the-variants.{Asks, Refused}
 use Rattle.forms.specs.declared.read.Reading.{Reading}
 use Rattle.forms.specs.Text.{Form}
 use Rattle.forms.specs.Read.{read}
-use Rattle.forms.specs.Request.{asked}
+use Rattle.forms.specs.Request.{inRange, asked}
 use Rattle.model.specs.Packet.{under}
 use Rattle.model.specs.Row.{held, admits, areNodes, usersOf, stands}
 use Rattle.model.specs.Rules.{writes, lost, upWith, upRule, headerStands, rule}
@@ -118,6 +118,12 @@ seenMove t (moved a t′ c) = record { part = t′; lines = answer a; refusal = 
 abbrev pub seenParsed : Network → Part → Parsed → Seen
 seenParsed n t (Asks q) = seenMove t (ownMove n areNodes q t)
 seenParsed n t (Refused r) = seenMove t (refuse r)
+
+-- what holds of a refusal, and of a request's move, holds of a line that asks for it, its numbers in range or not
+pub ranged-seen : (P : Seen → Type 0) (n : Network) (t : Part) → P (seenMove t (refuse Range)) → (ok : Bool) (q : request.Request)
+    → P (seenMove t (ownMove n areNodes q t)) → P (seenParsed n t (inRange ok q))
+ranged-seen P n t r true q h = h
+ranged-seen P n t r false q h = r
 
 -- the call by itself: it reads the network and the session's part, and nothing else
 unfoldable pub local : Network → Part → Call → Seen

@@ -1,4 +1,4 @@
--- What a move leaves: a whole part, and rows that change as it says. Assumes nothing.
+-- What a move leaves: a whole part, rows that change as it says, and a session that only an open brings into use. Assumes nothing.
 use mathlib.Core.Path.{_≡_, refl, sym, _∙_}
 use mathlib.Core.Bool.{Bool, true, false}
 use mathlib.Core.List.{List, [], _++_, append-nil}
@@ -66,7 +66,7 @@ pub record Fair (t t′ : Part) (c : Change) : Type 0 where
   pub went : (out : Bool) (a q : ℕ) → howMany out a q (c .went) ≤ howMany out a q (held t)
   pub came : length (c .came) ≤ 32
   -- it is an open that brings a session into use
-  pub opens : unused t ≡ true → unused t′ ≡ false → c .opens ≡ true
+  pub opens : c .opens ≡ false → unused t ≡ true → unused t′ ≡ true
 
 abbrev pub FairMove : Part → Move → Type 0
 FairMove t (refuse r) = Unit
@@ -81,14 +81,14 @@ module _ (t : Part) (h : Whole t) where
         rows = λ out a q. rw (held-applied t h at f) (omega (arith, many-append out a q (held t) (placed (t .session .rows) (f .added))));
         went = λ out a q. omega arith;
         came = omega (arith, placed-length (t .session .rows) (f .added));
-        opens = λ e w. never (sym u ∙ e);
+        opens = λ o e. never (sym u ∙ e);
       }
 
   pub fair-step : (n : Network) (standing : ℕ → ℕ → Bool) (k : ℕ) → FairMove t (stepMove n standing k t)
   unfolding stepMove stepAt
   fair-step n standing k = checked-either (FairMove t) refuse (λ r. tt) _ (λ e. fair-stepped (e .0) _ _)
 
-  fair-item : (g : Stage) (c d : ℕ) (i : Item) (opens : Bool) → (unused t ≡ true → opens ≡ true) → Fair t (withItem t g c d i) (noRows opens)
+  fair-item : (g : Stage) (c d : ℕ) (i : Item) (opens : Bool) → (opens ≡ false → unused t ≡ false) → Fair t (withItem t g c d i) (noRows opens)
   unfolding howMany
   fair-item g c d i opens u =
       record {
@@ -96,16 +96,16 @@ module _ (t : Part) (h : Whole t) where
         rows = λ out a q. omega arith;
         went = λ out a q. omega arith;
         came = omega arith;
-        opens = λ e w. u e;
+        opens = λ o e. never (sym (u o) ∙ e);
       }
 
   pub fair-open : (n : Network) (c d : ℕ) → FairMove t (openMove n c d t)
   unfolding openMove opening
-  fair-open n c d = checked-either (FairMove t) refuse (λ r. tt) _ (λ e. fair-item _ _ _ _ _ (λ u. refl))
+  fair-open n c d = checked-either (FairMove t) refuse (λ r. tt) _ (λ e. fair-item _ _ _ _ _ (λ o. never (sym o)))
 
   pub fair-send : (w : Sender) (tag : ℕ) → FairMove t (sendMove w tag t)
   unfolding sendMove sending
-  fair-send w tag = checked-either (FairMove t) refuse (λ r. tt) _ (λ e. fair-item _ _ _ _ _ (λ u. never (sym (e .0) ∙ u)))
+  fair-send w tag = checked-either (FairMove t) refuse (λ r. tt) _ (λ e. fair-item _ _ _ _ _ (λ o. e .0))
 
   pub fair-close : FairMove t (closeMove t)
   unfolding closeMove closing
@@ -117,5 +117,5 @@ module _ (t : Part) (h : Whole t) where
         rows = λ out a q. omega arith;
         went = λ out a q. omega arith;
         came = omega arith;
-        opens = λ u w. never (sym w);
+        opens = λ o e. refl;
       })

@@ -1,11 +1,11 @@
 -- Every rule writes items and rows that name nodes only, no Disc but on a wire, and no wire of over 32 hops. Assumes nothing.
-use mathlib.Core.Path.{_≡_, refl, sym, _∙_}
-use mathlib.Core.Bool.{Bool, true, false, not, _&&_, or-true}
-use mathlib.Core.List.{List, [], _∷_}
+use mathlib.Core.Path.{_≡_, refl, sym, ap, _∙_}
+use mathlib.Core.Bool.{Bool, true, false, not, _&&_}
+use mathlib.Core.List.{List}
 use Prim.Native.Nat.{ℕ, _≤_}
 use native.Mathlib.Omega.{arith}
 use lib.Dec.{eqb}
-use borrow.Author.Tests.{eqb-true, eqb-false, eq-eqb, ne-eqb}
+use borrow.Author.Tests.{eqb-true, eqb-false}
 use Rattle.calculus.proofs.Tests.{both, never, either}
 use Rattle.calculus.specs.Number.{isNode}
 use Rattle.calculus.specs.declared.effect.Outcome.{Outcome}
@@ -30,13 +30,16 @@ use Rattle.calculus.specs.declared.session.Session.{Session}
 use Rattle.calculus.specs.declared.state.Part.{Part}
 use Rattle.model.specs.Network.{isGateway, nextHop, hasAllNeeded}
 use Rattle.model.specs.Packet.{bare, headedTo, target}
-use Rattle.model.specs.Row.{held, fits, newer, newest, admits, areNodes}
+use Rattle.model.specs.Row.{held, fits, newest, admits, areNodes}
 use Rattle.model.specs.Rules.{discovers, lastPoint, isExhausted, unprotected, onward, wireRule, headerTo, outRule, headerStands, upWith, upRule, agrees, received, inRule, estRule, authRule, grantRule, ackRule, rule}
 use Rattle.model.specs.State.{addedRows}
 use Rattle.model.specs.SetUp.{isDisc}
-use Rattle.model.specs.Lists.{fold, All}
+use Rattle.model.specs.Lists.{All}
 use Rattle.model.specs.GivenBack.{Consistent}
+use Rattle.model.proofs.Lists.{all-map}
 use Rattle.model.proofs.Places.{are-nodes}
+use Rattle.model.proofs.Discovers.{discovers-disc, server-discovers}
+use Rattle.model.proofs.Match.{OfVia, of-match}
 use Rattle.model.proofs.Nodes.{Node, LeadsToNode, routed}
 
 -- ---- what an item may name, v being the server
@@ -46,8 +49,7 @@ HeaderNamed Bare = Unit
 HeaderNamed (Tunnel from to spi) = Node from × Node to
 
 abbrev ViaNamed : Via → Type 0
-ViaNamed Untunnelled = Unit
-ViaNamed (Peer q) = Node q
+ViaNamed = OfVia Node
 
 pub record PacketNamed (p : Packet) : Type 0 where
   source : Node (p .source)
@@ -95,13 +97,6 @@ EffectNamed v f = Written (Named v) (f .outcome) × All RowNamed (addedRows (f .
 
 -- ---- the rules
 
-discovers-disc : (gateway : Bool) (v a : ℕ) (y : Payload) → discovers gateway v a y ≡ true → isDisc y ≡ true
-discovers-disc gateway v a (Req e) k = never k
-discovers-disc gateway v a (Rep e) k = never k
-discovers-disc gateway v a (Disc p) k = refl
-discovers-disc gateway v a Done k = never k
-discovers-disc gateway v a (Data tag) k = never k
-
 -- no Disc reaches up: at the server it is discovered
 arrives : (v : ℕ) (gateway : Bool) (a : ℕ) (y : Payload) (d : ℕ) (h : Header) → discovers gateway v a y ≡ false → DiscNamed v y d h
     → a ≡ headedTo h d → NoDisc y
@@ -111,8 +106,7 @@ arrives v gateway a (Disc p) d h k o t =
     let x = o refl in
     let b : headedTo h d ≡ d = rw (x .3) in
     let e : a ≡ v = t ∙ b ∙ x .2 in
-    let n : eqb a p ≡ false = ne-eqb a p (λ w. x .1 (sym w ∙ e)) in
-    sym (rw (n, eq-eqb a v e) (or-true gateway)) ∙ k
+    sym (server-discovers gateway v a p (λ w. x .1 (sym w ∙ e)) e) ∙ k
 arrives v gateway a Done d h k o t = refl
 arrives v gateway a (Data tag) d h k o t = refl
 
@@ -128,19 +122,15 @@ wire-named gateway next s a p h k o =
     let P = EffectNamed v in
     either P (discovers gateway v a (p .payload))
     (λ e. either P (isExhausted s) (λ e. (tt, tt))
-    (λ w. ((tt, (o .0, o .2 (discovers-disc gateway v a (p .payload) e) .0)), tt)))
+    (λ w. ((tt, (o .0, o .2 (ap isDisc (discovers-disc gateway v a (p .payload) e)) .0)), tt)))
     (λ e. either P (eqb a (target p))
     (λ w. ((o .0, o .1, arrives v gateway a (p .payload) (p .destination) (p .header) e (o .2) (eqb-true a (target p) w)), tt))
     (λ e. either P (unprotected gateway p) (λ e. (tt, tt))
     (λ e. either P (eqb h 0) (λ e. (tt, tt)) (λ e. onward-named v next a p h k o))))
 
 -- the peer of the newest row that fits
-newest-named : (out : Bool) (a : ℕ) (p : Packet) (rows : List Row) (best : Via) → All RowNamed rows → ViaNamed best
-    → ViaNamed (fold (newer out a p) best rows)
-newest-named out a p [] best h k = k
-newest-named out a p (r ∷ rows) best h k =
-    newest-named out a p rows (newer out a p best r) (h .1)
-    (either ViaNamed (fits out a p r) (λ e. both (isNode (r .node)) (isNode (r .peer)) (h .0) .1) (λ e. k))
+newest-named : (out : Bool) (a : ℕ) (p : Packet) (rows : List Row) → All RowNamed rows → ViaNamed (newest rows out a p)
+newest-named out a p rows h = of-match out a p Node rows (all-map RowNamed _ (λ r k e. both (isNode (r .node)) (isNode (r .peer)) k .1) rows h)
 
 header-named : (a : ℕ) (q : Via) → Node a → ViaNamed q → HeaderNamed (headerTo a q)
 header-named a Untunnelled h k = tt
@@ -155,7 +145,7 @@ out-named v rows a p h o =
         record {
           source = o .1 .source;
           destination = o .1 .destination;
-          header = header-named a q (o .0) (newest-named true a p rows Untunnelled h tt);
+          header = header-named a q (o .0) (newest-named true a p rows h);
         },
         λ e. never (sym (o .2) ∙ e),
         omega arith,

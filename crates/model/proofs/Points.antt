@@ -1,27 +1,27 @@
 -- The tunnel points of a session, which the network and its ends tell, and the rows that stand between them: each row by itself, so
 -- that any of them may be missing. Assumes nothing.
 use mathlib.Core.Path.{_≡_, refl, sym, ap, _∙_}
-use mathlib.Core.Bool.{Bool, true, false, cond, and-true, and-false}
-use mathlib.Core.List.{List, [], _∷_}
+use mathlib.Core.Bool.{true, false, cond, and-true, and-false}
+use mathlib.Core.List.{List}
 use Prim.Native.Nat.{ℕ, zero, suc, _+_, _-_, _≤_, _<_}
 use native.Mathlib.Omega.{arith}
 use native.Mathlib.Decide.{decLt}
 use borrow.Author.Tests.{eqb-true, eq-eqb, ne-eqb}
-use Rattle.calculus.proofs.Tests.{never, either}
+use Rattle.calculus.proofs.Tests.{never}
 use Rattle.calculus.specs.declared.network.Network.{Network}
 use Rattle.calculus.specs.declared.network.NextHop.{NextHop}
 use Rattle.calculus.specs.declared.network.NextHop.the-variants.{Found, Missing}
 use Rattle.calculus.specs.declared.packet.Payload.the-variants.{Disc, Done}
 use Rattle.calculus.specs.declared.packet.Packet.{Packet}
-use Rattle.calculus.specs.declared.packet.Via.{Via}
 use Rattle.calculus.specs.declared.packet.Via.the-variants.{Untunnelled, Peer}
 use Rattle.calculus.specs.declared.session.Row.{Row}
-use Rattle.model.specs.Lists.{fold, All}
+use Rattle.model.specs.Lists.{All}
 use Rattle.model.specs.Network.{isGateway, nextHop}
 use Rattle.model.specs.Packet.{bare}
-use Rattle.model.specs.Row.{outRow, inRow, skips, fits, newer, newest}
+use Rattle.model.specs.Row.{outRow, inRow, skips, fits, newest}
 use Rattle.model.specs.Rules.{discovers}
 use Rattle.model.proofs.Lists.{all-map}
+use Rattle.model.proofs.Match.{of-newest, none-newest}
 
 -- ---- the points
 
@@ -118,28 +118,7 @@ module _ (net : Network) (c d : ℕ) where
   chained-more b b′ h r (initiatorOut i e w m) = initiatorOut i e w (omega arith)
   chained-more b b′ h r (initiatorIn i e w m) = initiatorIn i e w (omega arith)
 
--- ---- match
-
-module _ (R : ℕ → Type 0) (out : Bool) (a : ℕ) (p : Packet) where
-  abbrev OfVia : Via → Type 0
-  OfVia Untunnelled = Unit
-  OfVia (Peer q) = R q
-
-  of-newer : (best : Via) (rows : List Row) → All (λ r. fits out a p r ≡ true → R (r .peer)) rows → OfVia best → OfVia (fold (newer out a p) best rows)
-  of-newer best [] h k = k
-  of-newer best (r ∷ rows) h k = of-newer (newer out a p best r) rows (h .1) (either OfVia (fits out a p r) (h .0) (λ e. k))
-
-  -- what holds of the peer of every row that fits, holds of the one found
-  pub of-newest : (q : ℕ) (rows : List Row) → All (λ r. fits out a p r ≡ true → R (r .peer)) rows → newest rows out a p ≡ Peer q → R q
-  of-newest q rows h e = rw e at (of-newer Untunnelled rows h tt)
-
-module _ (out : Bool) (a : ℕ) (p : Packet) where
-  pub none-newest : (rows : List Row) → All (λ r. fits out a p r ≡ false) rows → newest rows out a p ≡ Untunnelled
-  none-newest rows h = go Untunnelled rows h
-    where
-      go : (best : Via) (rows : List Row) → All (λ r. fits out a p r ≡ false) rows → fold (newer out a p) best rows ≡ best
-      go best [] h = refl
-      go best (r ∷ rows) h = rw (h .0) (go best rows (h .1))
+-- ---- rows that fit
 
 module _ (net : Network) (c d b : ℕ) where
   abbrev row : Row → Type 0
@@ -170,7 +149,7 @@ module _ (net : Network) (c d b : ℕ) where
         let g = f (h .client (suc i) (omega arith) (omega arith)) in none-newest true x p rows (all-map row _ (other-ends (g .0) (g .1)) rows rs)
 
   -- the tunnel that a Done comes out of at y, from x
-  pub record Passed (y x : ℕ) : Type 0 where
+  pub record Through (y x : ℕ) : Type 0 where
     pub place : ℕ
     pub near : y ≡ points net c d place
     pub number : ℕ
@@ -179,12 +158,12 @@ module _ (net : Network) (c d b : ℕ) where
     pub few : number ≤ b
 
   module _ (apart : c ≡ d → ⊥) (y : ℕ) where
-    passed-row : (r : Row) → row r → fits false y (bare d c Done) r ≡ true → Passed y (r .peer)
+    passed-row : (r : Row) → row r → fits false y (bare d c Done) r ≡ true → Through y (r .peer)
     passed-row r (responderOut i e w m) f = never f
     passed-row r (responderIn i e w m) f =
         record { place = i; near = sym (eqb-true (points net c d i) y (simp (eq-eqb d d refl, eq-eqb c c refl, and-true) at f)); number = e; far = refl; follows = w; few = m }
     passed-row r (initiatorOut i e w m) f = never f
     passed-row r (initiatorIn i e w m) f = never (sym (simp (ne-eqb c d apart, and-false)) ∙ f)
 
-    pub passed : (x : ℕ) (rows : List Row) → All row rows → newest rows false y (bare d c Done) ≡ Peer x → Passed y x
-    passed x rows rs e = of-newest (Passed y) false y (bare d c Done) x rows (all-map row _ passed-row rows rs) e
+    pub passed : (x : ℕ) (rows : List Row) → All row rows → newest rows false y (bare d c Done) ≡ Peer x → Through y x
+    passed x rows rs e = of-newest false y (bare d c Done) (Through y) x rows (all-map row _ passed-row rows rs) e

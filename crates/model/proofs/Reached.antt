@@ -1,11 +1,11 @@
 -- What holds of every state that calls reach from a fresh one. Assumes nothing.
-use mathlib.Core.Path.{_≡_, sym, ap}
+use mathlib.Core.Path.{_≡_, ap}
 use mathlib.Core.Bool.{true, false}
 use mathlib.Core.List.{List, [], _∷_}
 use Prim.Native.Nat.{ℕ}
 use native.Mathlib.Omega.{arith}
 use native.Mathlib.Decide.{ℕ-discrete}
-use Rattle.calculus.proofs.Tests.{Way, is, isnt, way, never}
+use Rattle.calculus.proofs.Tests.{neither}
 use Rattle.calculus.specs.declared.network.Network.{Network}
 use Rattle.calculus.specs.declared.request.Request as request
 use Rattle.calculus.specs.declared.state.Part.{Part}
@@ -29,8 +29,8 @@ pub record Sound (s : State) : Type 0 where
   pub good : Good s
   pub consistent : Consistent (s .network)
   pub sane : (u : ℕ) → Numbered u → Sane (load s u)
-  -- where a session is in use one was opened: node and route calls are late
-  pub late : (u : ℕ) → Numbered u → unused (load s u) ≡ false → s .opened ≡ true
+  -- while node and route calls are not late, every session is unused
+  pub early : (u : ℕ) → Numbered u → s .opened ≡ false → unused (load s u) ≡ true
 
 consistent-given : (n n′ : Network) → Given n n′ → Consistent n → Consistent n′
 consistent-given n n′ (byNode a k has needs i j) h = consistent-node n a k has needs i j h
@@ -40,16 +40,11 @@ sane-after : (t : Part) (m : Move) → Sane t → SaneMove m → Sane (seenMove 
 sane-after t (refuse r) h k = h
 sane-after t (moved a t′ c) h k = k
 
--- a move of a session in use was preceded by an open, or is one
-late-after : (s : State) (u : ℕ) (m : Move) → FairMove (load s u) m → (unused (load s u) ≡ false → s .opened ≡ true)
-    → unused (seenMove (load s u) m .part) ≡ false → performed s u m .state .opened ≡ true
+early-after : (s : State) (u : ℕ) (m : Move) → FairMove (load s u) m → (s .opened ≡ false → unused (load s u) ≡ true)
+    → performed s u m .state .opened ≡ false → unused (seenMove (load s u) m .part) ≡ true
 unfolding performed store changed
-late-after s u (refuse r) f h e = h e
-late-after s u (moved a t c) f h e = go (way (unused (load s u)))
-  where
-    go : Way (unused (load s u)) → performed s u (moved a t c) .state .opened ≡ true
-    go (is w) = rw (f .opens w e)
-    go (isnt w) = performed-opened s u (moved a t c) (h w)
+early-after s u (refuse r) f h e = h e
+early-after s u (moved a t c) f h e = let o = neither (c .opens) (s .opened) e in f .opens (o .0) (h (o .1))
 
 module _ (s : State) (h : Sound s) where
   sane-own : (u : ℕ) → Numbered u → (q : request.Request) → SaneMove (moveIn s u q)
@@ -65,13 +60,13 @@ module _ (s : State) (h : Sound s) where
         good = performed-good s (h .good) u hu m f;
         consistent = rw (performed-network s u m) (h .consistent);
         sane = λ v hv. part v hv (ℕ-discrete v u);
-        late = λ v hv. opened v hv (ℕ-discrete v u);
+        early = λ v hv e. unused-part v hv (ℕ-discrete v u) e;
       }
     where
-      opened : (v : ℕ) → Numbered v → Dec (v ≡ u) → unused (load (performed s u m .state) v) ≡ false → performed s u m .state .opened ≡ true
-      opened v hv (yes e) w =
-          late-after s u m f (h .late u hu) (rw (e, ap (λ (x : Seen). x .part) (performed-own s (h .good) u hu m f)) at w)
-      opened v hv (no e) w = performed-opened s u m (h .late v hv (rw (performed-others s (h .good) u hu m f v hv e) at w))
+      unused-part : (v : ℕ) → Numbered v → Dec (v ≡ u) → performed s u m .state .opened ≡ false → unused (load (performed s u m .state) v) ≡ true
+      unused-part v hv (yes e) w =
+          rw (e, ap (λ (x : Seen). x .part) (performed-own s (h .good) u hu m f)) (early-after s u m f (h .early u hu) w)
+      unused-part v hv (no e) w = rw (performed-others s (h .good) u hu m f v hv e) (h .early v hv (performed-opened s u m w))
 
       part : (v : ℕ) → Numbered v → Dec (v ≡ u) → Sane (load (performed s u m .state) v)
       part v hv (yes e) =
@@ -86,7 +81,7 @@ module _ (s : State) (h : Sound s) where
         good = given-good s n (h .good);
         consistent = consistent-given (s .network) n g (h .consistent);
         sane = λ u hu. rw (given-load s n u) (h .sane u hu);
-        late = λ u hu. rw (given-load s n u) (h .late u hu);
+        early = λ u hu. rw (given-load s n u) (h .early u hu);
       })
       (λ q i o.
       let u = sessionIn q in
@@ -104,7 +99,7 @@ fresh-sound =
       good = fresh-good;
       consistent = consistent-fresh;
       sane = λ u hu. rw (load-fresh u hu) (sane-empty 0 (omega arith));
-      late = λ u hu. rw (load-fresh u hu) (λ e. never (sym e));
+      early = λ u hu e. rw (load-fresh u hu);
     }
 
 pub reached : (cs : List Call) → Sound (after fresh cs)

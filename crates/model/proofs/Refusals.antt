@@ -46,7 +46,7 @@ abbrev Answers : Move → Type 0
 Answers (refuse r) = IsWritten r
 Answers (moved a t c) = refusalIn a ≡ none
 
-outcome-answers : (n : ℕ) (o : Outcome) → refusalIn (answerOf n o) ≡ none
+pub outcome-answers : (n : ℕ) (o : Outcome) → refusalIn (answerOf n o) ≡ none
 outcome-answers n (outcome.Wrote i) = refl
 outcome-answers n (outcome.WroteTwo i j) = refl
 outcome-answers n (outcome.Lost k) = refl

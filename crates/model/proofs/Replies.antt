@@ -1,13 +1,13 @@
 -- What a call can leave of a state, by cases. Assumes nothing.
 use mathlib.Core.Path.{_≡_, refl, sym, subst, _∙_}
-use mathlib.Core.Bool.{Bool, true, false, or-true}
+use mathlib.Core.Bool.{Bool, true, false}
 use mathlib.Core.List.{List}
 use Prim.Native.Nat.{ℕ}
 use native.Mathlib.Omega.{arith}
 use lib.Dec.{ltb, eqb}
 use borrow.Author.Tests.{eqb-false, not-false}
 use Rattle.calculus.specs.Number.{isSession}
-use Rattle.calculus.proofs.Tests.{within-bounds, never, either}
+use Rattle.calculus.proofs.Tests.{within-bounds, never, neither, either}
 use Rattle.calculus.specs.declared.network.Kind.{Kind}
 use Rattle.calculus.specs.declared.network.Network.{Network}
 use Rattle.calculus.specs.declared.request.Request as request
@@ -75,10 +75,10 @@ unfolding performed store changed
 performed-network s u (refuse r) = refl
 performed-network s u (moved a t c) = refl
 
-pub performed-opened : (s : State) (u : ℕ) (m : Move) → s .opened ≡ true → performed s u m .state .opened ≡ true
+pub performed-opened : (s : State) (u : ℕ) (m : Move) → performed s u m .state .opened ≡ false → s .opened ≡ false
 unfolding performed store changed
 performed-opened s u (refuse r) e = e
-performed-opened s u (moved a t c) e = rw e (or-true (c .opens))
+performed-opened s u (moved a t c) e = neither (c .opens) (s .opened) e .1
 
 module _ (s : State) (g : Good s) (c : Call) where
   pub call-good : Good (call s c .state)

@@ -1,7 +1,7 @@
 -- What every request of a session keeps of its part: there is room, and items, rows and ends name nodes. Assumes nothing.
 use mathlib.Core.Path.{_≡_, refl, sym, subst, _∙_}
-use mathlib.Core.Bool.{Bool, true, false, cond, not, _&&_}
-use mathlib.Core.List.{List, [], _∷_}
+use mathlib.Core.Bool.{Bool, true, false, _&&_}
+use mathlib.Core.List.{List}
 use Prim.Native.Nat.{ℕ, _+_, _-_, _≤_}
 use native.Mathlib.Omega.{arith}
 use lib.Dec.{leb}
@@ -31,9 +31,9 @@ use Rattle.model.specs.Requests.{Move, refuse, moved, isUnused, unused, 
 use Rattle.model.specs.SetUp.{isPending, itemAt}
 use Rattle.model.proofs.Checks.{checked-either}
 use Rattle.model.specs.Lists.{place, All}
-use Rattle.model.proofs.Lists.{all-set, all-get, all-append, all-take, all-replicate}
+use Rattle.model.proofs.Lists.{all-set, all-get, all-append, all-take, all-replicate, all-map, none-tallied}
 use Rattle.model.proofs.Nodes.{Node, given-node}
-use Rattle.model.proofs.Weights.{count, weigh, counted, weigh-le, free-is}
+use Rattle.model.proofs.Weights.{counted, weigh-le, free-is}
 use Rattle.model.proofs.SetUpWeights.{uses, space, carries, active, due, spare, active-space, pending}
 use Rattle.model.proofs.Balance.{rule-law}
 use Rattle.model.proofs.Pending.{Distinct, distinct-step, distinct-item}
@@ -70,15 +70,10 @@ module _ (P : Item → Type 0) where
         (all-set (At P) rest (place (λ (s : Slot). isThatWait (f .wait) (s .item)) rest) blankSlot h z) k
 
     -- where nothing pends every place is free
-    all-free : (l : List Slot) → weigh (count isPending) l ≡ 0 → All (At P) l
-    unfolding weigh
-    all-free [] h = tt
-    all-free (s ∷ l) h = go (isFree (s .item)) refl h (λ e. all-free l e)
-      where
-        go : (b : Bool) → isFree (s .item) ≡ b → cond (not b) 1 0 + weigh (count isPending) l ≡ 0 → (weigh (count isPending) l ≡ 0 → All (At P) l)
-            → P (s .item) × All (At P) l
-        go true e k g = (subst P (sym (free-is (s .item) e)) z, g (omega arith))
-        go false e k g = absurd (omega arith)
+    all-free : (l : List Slot) → howManyItems isPending l ≡ 0 → All (At P) l
+    all-free l h =
+        all-map (λ s. isPending (s .item) ≡ false) (At P) (λ s e. subst P (sym (free-is (s .item) (not-false (isFree (s .item)) e))) z) l
+        (none-tallied (λ s. isPending (s .item)) l h)
 
 -- ---- a sane part
 
@@ -108,10 +103,13 @@ sane-empty last b =
     }
 
 -- an unused session has no items
+pub unused-none : (t : Part) → Roomy t → unused t ≡ true → howManyItems isPending (t .items) ≡ 0
+unused-none t h u =
+    let z : spare (t .session .stage) ≡ 3 = rw u in
+    omega (arith, h .places, h .tags, counted isPending (t .items), pending (t .items))
+
 pub all-unused : (P : Item → Type 0) → P Free → (t : Part) → Sane t → unused t ≡ true → All (At P) (t .items)
-all-unused P z t h u =
-    let k : spare (t .session .stage) ≡ 3 = rw u in
-    all-free P z (t .items) (omega (arith, pending (t .items), h .roomy))
+all-unused P z t h u = all-free P z (t .items) (unused-none t (h .roomy) u)
 
 -- a session in use stays so in a step
 still-used : (g g′ : Stage) → isUnused g ≡ false → isUnused g′ ≡ true → spare g′ ≤ spare g → ⊥

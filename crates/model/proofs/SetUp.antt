@@ -1,6 +1,6 @@
 -- What a set-up can hold, in every state that calls reach. Assumes nothing.
 use mathlib.Core.Path.{_≡_, refl, ap, _∙_}
-use mathlib.Core.Bool.{Bool, true, false}
+use mathlib.Core.Bool.{Bool, false}
 use mathlib.Core.List.{List, [], _∷_, _++_}
 use Prim.Native.Nat.{ℕ, _+_, _≤_, _<_}
 use native.Mathlib.Omega.{arith}
@@ -20,21 +20,20 @@ use Rattle.calculus.specs.declared.state.State.{State}
 use Rattle.model.specs.Row.{held, areNodes, usersOf, stands}
 use Rattle.model.specs.Rules.{rule}
 use Rattle.model.specs.Item.{isFree, isWait, isDataItem, howManyItems}
-use Rattle.model.specs.SetUp.{isPending, itemAt, isSetUpItem, isGrant, isDiscOffWire, waitOf, hopsOf, itemsOf, waitItems, DropsNothing, Holds, SetUps}
+use Rattle.model.specs.SetUp.{itemAt, isSetUpItem, isGrant, isDiscOffWire, waitOf, hopsOf, itemsOf, waitItems, DropsNothing, Holds, SetUps}
 use Rattle.model.specs.State.{fresh, load, putItem, applied}
 use Rattle.model.specs.Calls.{after}
-use Rattle.model.specs.Requests.{unused}
 use Rattle.model.specs.Lists.{tally, All}
-use Rattle.model.proofs.Lists.{all-map}
+use Rattle.model.proofs.Lists.{all-map, tally-none}
 use Rattle.model.proofs.Weights.{count, counted, weighOut, weighWait, weigh-le, weigh-sum, weigh-at, weigh-put, free-or-pending}
-use Rattle.model.proofs.SetUpWeights.{uses, space, carries, due, spare, wanted, pends, set-up-space, pending, grant-due}
+use Rattle.model.proofs.SetUpWeights.{uses, space, carries, due, wanted, pends, set-up-space, pending, grant-due}
 use Rattle.model.proofs.Parts.{Numbered}
 use Rattle.model.proofs.Moves.{held-applied}
 use Rattle.model.proofs.Balance.{rule-law}
 use Rattle.model.proofs.Nodes.{network-holds}
 use Rattle.model.proofs.Roomy.{Roomy, step-ledger, rows-fit}
 use Rattle.model.proofs.Named.{Named}
-use Rattle.model.proofs.Sane.{At}
+use Rattle.model.proofs.Sane.{At, unused-none}
 use Rattle.model.proofs.Counted.{Good, users-most}
 use Rattle.model.proofs.Replies.{numbered}
 use Rattle.model.proofs.Reached.{Sound, reached}
@@ -53,14 +52,8 @@ disc-on-wire v (Dwait a) h = refl
 disc-on-wire v (Ewait a e) h = refl
 
 discs-on-wires : (v : ℕ) (l : List Slot) → All (At (Named v)) l → howManyItems isDiscOffWire l ≡ 0
-discs-on-wires v [] h = refl
-discs-on-wires v (s ∷ l) h = rw (disc-on-wire v (s .item) (h .0)) (omega (arith, discs-on-wires v l (h .1)))
-
--- an unused session holds nothing
-unused-none : (t : Part) → Roomy t → unused t ≡ true → howManyItems isPending (t .items) ≡ 0
-unused-none t k e =
-    let z : spare (t .session .stage) ≡ 3 = rw e in
-    omega (arith, z, k .places, k .tags, counted isPending (t .items), pending (t .items))
+discs-on-wires v l h =
+    tally-none (λ s. isDiscOffWire (s .item)) l (all-map (At (Named v)) _ (λ s k. disc-on-wire v (s .item) k) l h)
 
 few-users : (s : State) → Good s → (out : Bool) (a q : ℕ) → usersOf (s .users) out a q ≤ 256
 unfolding usersOf

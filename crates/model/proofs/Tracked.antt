@@ -1,11 +1,11 @@
 -- What a step keeps of a session's count: the steps taken and those that can follow stay within the ceiling. Assumes nothing.
 use mathlib.Core.Path.{_≡_, refl, sym, subst, _∙_}
 use mathlib.Core.Bool.{Bool, true, false, cond}
-use mathlib.Core.List.{List, [], _∷_}
+use mathlib.Core.List.{List}
 use Prim.Native.Nat.{ℕ, _+_, _-_, _≤_, _<_}
 use native.Mathlib.Omega.{arith}
 use lib.ListN.{length, set}
-use Rattle.calculus.proofs.Tests.{Way, is, isnt, way, never}
+use Rattle.calculus.proofs.Tests.{never, either}
 use Rattle.calculus.specs.declared.effect.Added.{Added}
 use Rattle.calculus.specs.declared.effect.Added.the-variants.{NoRows, Two}
 use Rattle.calculus.specs.declared.effect.Outcome.{Outcome}
@@ -28,22 +28,22 @@ use Rattle.model.specs.Requests.{dataItem}
 use Rattle.model.specs.SetUp.{isSetUpItem, itemAt}
 use Rattle.model.specs.Termination.{ceiling, isActive}
 use Rattle.model.proofs.Checks.{one}
-use Rattle.model.proofs.Lists.{all-map, all-set, all-get, all-append, all-take}
-use Rattle.model.proofs.Weights.{weigh, weighOut, weigh-set}
+use Rattle.model.proofs.Lists.{all-map, all-set, all-get, all-append, all-take, none-tallied}
+use Rattle.model.proofs.Weights.{weighOut, counted, weigh-set}
 use Rattle.model.proofs.SetUpWeights.{active}
 use Rattle.model.proofs.Balance.{Law, rule-law}
 use Rattle.model.proofs.Moves.{held-applied}
 use Rattle.model.proofs.Named.{Written}
 use Rattle.model.proofs.Sane.{At, Sane, all-after}
 use Rattle.model.proofs.Points.{Chained, chained-more}
-use Rattle.model.proofs.Underway.{Host, Underway}
+use Rattle.model.proofs.Underway.{Ends, Underway}
 use Rattle.model.proofs.Advances.{advances}
 
 -- ---- a part that is tracked
 
 -- an item that is neither a wait nor Data is under way, n steps being counted
 abbrev pub Tracks : Network → ℕ → ℕ → ℕ → ℕ → Item → Type 0
-Tracks net c d b n i = isActive i ≡ true → Host net c d × Underway net c d b n i
+Tracks net c d b n i = isActive i ≡ true → Ends net c d × Underway net c d b n i
 
 -- items and rows apart, so that either may go without the other
 pub record Tracked (net : Network) (t : Part) (n : ℕ) : Type 0 where
@@ -71,11 +71,6 @@ none-inactive i h = go (isActive i) h
     go : (b : Bool) → one b ≡ 0 → b ≡ false
     go true h = absurd (omega arith)
     go false h = refl
-
-pub all-inactive : (l : List Slot) → weigh active l ≡ 0 → All (At Inactive) l
-unfolding weigh
-all-inactive [] h = tt
-all-inactive (s ∷ l) h = (none-inactive (s .item) (omega arith), all-inactive l (omega arith))
 
 module _ (P Q : Item → Type 0) (f : (i : Item) → P i → Q i) where
   written-map : (o : Outcome) → Written P o → Written Q o
@@ -147,8 +142,14 @@ module _ (net : Network) (standing : ℕ → ℕ → Bool) (t : Part) (h : Sane 
   others-inactive : isActive item ≡ true → All (At Inactive) rest
   unfolding active
   others-inactive e =
-      all-inactive rest
-      (omega (arith, h .roomy .actives, h .roomy .whole .items, weigh-set active (t .items) at blankSlot (omega (arith, h .roomy .whole)), active-one item e))
+      none-tallied (λ s. isActive (s .item)) rest
+      (omega (
+        arith,
+        h .roomy .actives,
+        weigh-set active (t .items) at blankSlot (omega (arith, h .roomy .whole)),
+        active-one item e,
+        counted isActive rest,
+      ))
 
   active-step : isActive item ≡ true → Tracked net stepped (n + 1)
   active-step e =
@@ -170,8 +171,4 @@ module _ (net : Network) (standing : ℕ → ℕ → Bool) (t : Part) (h : Sane 
       (none-added LaterRow (effect .added) (omega (arith, law .adds, z)))
 
   pub step-tracked : Tracked net stepped (cond (isSetUpItem item) (n + 1) n)
-  step-tracked = go (way (isSetUpItem item))
-    where
-      go : Way (isSetUpItem item) → Tracked net stepped (cond (isSetUpItem item) (n + 1) n)
-      go (is e) = rw e (active-step (rw (e, w)))
-      go (isnt e) = rw e (inactive-step (rw e))
+  step-tracked = either (Tracked net stepped) (isSetUpItem item) (λ e. active-step (rw (e, w))) (λ e. inactive-step (rw e))

@@ -21,11 +21,11 @@ use Rattle.model.specs.Network.{isGateway, nextHop}
 use Rattle.model.specs.Packet.{bare}
 use Rattle.model.specs.Row.{held, newest}
 use Rattle.model.specs.Rules.{lost, writes, discovers, unprotected, onward, wireRule, outRule, upRule, agrees, received, inRule, rule}
-use Rattle.model.specs.Termination.{waySteps}
+use Rattle.model.specs.Termination.{tripSteps}
 
 -- where it can stand, and how many steps can follow until it is received
 pub data Trip (p : Packet) : ℕ → Item → Type 0 where
-  sent : Trip p waySteps (Out (p .source) p)
+  sent : Trip p tripSteps (Out (p .source) p)
   onWire : (a h : ℕ) → Trip p (h + 3) (Wire a p h)
   arrived : Trip p 2 (Up (p .destination) p)
   stripped : Trip p 1 (In (p .destination) p Untunnelled)
@@ -40,7 +40,7 @@ trip-some stripped = omega arith
 pub data Travels (p : Packet) (j : ℕ) : Effect → Type 0 where
   gone : (x : Loss) → Travels p j (lost x)
   further : (k : ℕ) (i : Item) → Trip p k i → k < j → Travels p j (writes i)
-  comes : 1 ≤ j → Travels p j (received (p .destination) (p .source) (p .payload))
+  comes : Travels p j (received (p .destination) (p .source) (p .payload))
 
 module _ (n : Network) (standing : ℕ → ℕ → Bool) (t : Part) (x z : ℕ) (y : Payload)
     (quiet : (g : Bool) (v a : ℕ) → discovers g v a y ≡ false) where
@@ -52,7 +52,7 @@ module _ (n : Network) (standing : ℕ → ℕ → Bool) (t : Part) (x z : ℕ) 
   onward-travels (Found next) h k = further (h - 1 + 3) _ (onWire next (h - 1)) (omega arith)
 
   -- where it is still to be sent, it is sent bare
-  pub travels : {j : ℕ} {i : Item} → (waySteps ≤ j → newest (held t) true x packet ≡ Untunnelled) → Trip packet j i → Travels packet j (rule n standing t i)
+  pub travels : {j : ℕ} {i : Item} → (tripSteps ≤ j → newest (held t) true x packet ≡ Untunnelled) → Trip packet j i → Travels packet j (rule n standing t i)
   unfolding rule outRule wireRule upRule inRule
   travels none sent = rw (none (omega arith)) (further 35 _ (onWire x 32) (omega arith))
   travels none (onWire a h) =
@@ -63,4 +63,4 @@ module _ (n : Network) (standing : ℕ → ℕ → Bool) (t : Part) (x z : ℕ) 
       (λ e. either P (eqb h 0) (λ e. gone _) (λ e. onward-travels (nextHop n a z) h (eqb-false h 0 e)))))
   travels none arrived = further 1 _ stripped (omega arith)
   travels none stripped =
-      either (Travels packet 1) (not (agrees (held t) z packet Untunnelled)) (λ e. gone _) (λ e. rw (eq-eqb z z refl) (comes (omega arith)))
+      either (Travels packet 1) (not (agrees (held t) z packet Untunnelled)) (λ e. gone _) (λ e. rw (eq-eqb z z refl) comes)

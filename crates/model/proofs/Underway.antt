@@ -12,21 +12,22 @@ use Rattle.calculus.specs.declared.packet.Via.the-variants.{Peer}
 use Rattle.calculus.specs.declared.packet.Item.{Item}
 use Rattle.calculus.specs.declared.packet.Item.the-variants.{Wire, Out, Up, In, Est, Auth, Grant, Ack}
 use Rattle.model.specs.Network.{isGateway}
-use Rattle.model.specs.Packet.{bare, under}
-use Rattle.model.specs.Termination.{hops, waySteps, establishmentSteps, ceiling}
+use Rattle.model.specs.Packet.{hopLimit, bare, under}
+use Rattle.model.specs.Rules.{establishmentLimit}
+use Rattle.model.specs.Termination.{tripSteps, establishmentSteps, ceiling}
 use Rattle.model.proofs.Trips.{Trip}
 use Rattle.model.proofs.Points.{walk, points, Between}
 
 -- with n steps taken and k to go in establishment b, the ceiling leaves those to come and the Done's
 abbrev pub Leaves : ℕ → ℕ → ℕ → Type 0
-Leaves b n k = establishmentSteps * (8 - b) + 8 * waySteps + k + n ≤ ceiling
+Leaves b n k = establishmentSteps * (establishmentLimit - b) + establishmentLimit * tripSteps + k + n ≤ ceiling
 
 module _ (net : Network) (c d : ℕ) where
   abbrev point : ℕ → ℕ
   point i = points net c d i
 
   -- the client is a host, and not the server
-  pub record Host : Type 0 where
+  pub record Ends : Type 0 where
     pub no-gateway : isGateway net c ≡ false
     pub apart : c ≡ d → ⊥
 
@@ -34,15 +35,16 @@ module _ (net : Network) (c d : ℕ) where
   pub record Discovering (b n a h : ℕ) : Type 0 where
     pub between : Between net c d b
     pub before : point b ≡ d → ⊥
-    pub few : b ≤ 8
+    pub few : b ≤ establishmentLimit
     pub arrives : walk net d (point b) h a ≡ point (b + 1)
-    pub leaves : establishmentSteps * (8 - b) + 8 * waySteps + h + n ≤ ceiling + hops
+    -- its steps are the next establishment's first, of which one is taken for each hop
+    pub leaves : establishmentSteps * (establishmentLimit - b) + establishmentLimit * tripSteps + h + n ≤ ceiling + hopLimit
 
   -- establishment b, between the points i and b
   pub record Begun (b i : ℕ) : Type 0 where
     pub between : Between net c d b
     pub number : b ≡ i + 1
-    pub few : b ≤ 8
+    pub few : b ≤ establishmentLimit
 
   -- the server is the last point: a Done is on its way back, at x, which is point k, or in the tunnel out of it
   pub record Returning (b x k : ℕ) : Type 0 where
@@ -55,20 +57,20 @@ module _ (net : Network) (c d : ℕ) where
   -- an item of the set-up, with b establishments begun and n steps taken. Nothing is said of rows
   pub data Underway (b n : ℕ) : Item → Type 0 where
     discovering : (a h : ℕ) → Discovering b n a h → Underway b n (Wire a (bare c d (Disc (point b))) h)
-    establishing : (i : ℕ) → Begun b i → Leaves b n (6 + waySteps + waySteps) → Underway b n (Est (point b) (point i) b)
-    requesting : {j : ℕ} {x : Item} (i : ℕ) → Begun b i → Trip (bare (point b) (point i) (Req b)) j x → Leaves b n (5 + waySteps + j) → Underway b n x
-    authorizing : (i : ℕ) → Begun b i → Leaves b n (5 + waySteps) → Underway b n (Auth (point i) (point b) b Responder)
-    granting : (i : ℕ) → Begun b i → Leaves b n (4 + waySteps) → Underway b n (Grant (point i) (point b) b Responder)
+    establishing : (i : ℕ) → Begun b i → Leaves b n (6 + tripSteps + tripSteps) → Underway b n (Est (point b) (point i) b)
+    requesting : {j : ℕ} {x : Item} (i : ℕ) → Begun b i → Trip (bare (point b) (point i) (Req b)) j x → Leaves b n (5 + tripSteps + j) → Underway b n x
+    responderAuth : (i : ℕ) → Begun b i → Leaves b n (5 + tripSteps) → Underway b n (Auth (point i) (point b) b Responder)
+    responderGrant : (i : ℕ) → Begun b i → Leaves b n (4 + tripSteps) → Underway b n (Grant (point i) (point b) b Responder)
     replying : {j : ℕ} {x : Item} (i : ℕ) → Begun b i → Trip (bare (point i) (point b) (Rep b)) j x → Leaves b n (3 + j) → Underway b n x
-    authorized : (i : ℕ) → Begun b i → Leaves b n 3 → Underway b n (Auth (point b) (point i) b Initiator)
-    granted : (i : ℕ) → Begun b i → Leaves b n 2 → Underway b n (Grant (point b) (point i) b Initiator)
+    initiatorAuth : (i : ℕ) → Begun b i → Leaves b n 3 → Underway b n (Auth (point b) (point i) b Initiator)
+    initiatorGrant : (i : ℕ) → Begun b i → Leaves b n 2 → Underway b n (Grant (point b) (point i) b Initiator)
     acknowledging : (i : ℕ) → Begun b i → Leaves b n 1 → Underway b n (Ack (point b) b)
     -- a Done at x, point k, or in the tunnel out of x: a way for each tunnel from there to the client
-    doneOut : (x k : ℕ) → Returning b x k → waySteps * k + n ≤ ceiling → Underway b n (Out x (bare d c Done))
-    doneOnWire : (x k q : ℕ) (s : Spi) (y h : ℕ) → Returning b x k → waySteps * (k - 1) + (h + 3) + n ≤ ceiling
+    doneOut : (x k : ℕ) → Returning b x k → tripSteps * k + n ≤ ceiling → Underway b n (Out x (bare d c Done))
+    doneOnWire : (x k q : ℕ) (s : Spi) (y h : ℕ) → Returning b x k → tripSteps * (k - 1) + (h + 3) + n ≤ ceiling
         → Underway b n (Wire y (under (bare d c Done) (Tunnel x q s)) h)
-    doneUp : (x k q : ℕ) (s : Spi) (y : ℕ) → Returning b x k → waySteps * (k - 1) + 2 + n ≤ ceiling
+    doneUp : (x k q : ℕ) (s : Spi) (y : ℕ) → Returning b x k → tripSteps * (k - 1) + 2 + n ≤ ceiling
         → Underway b n (Up y (under (bare d c Done) (Tunnel x q s)))
-    doneIn : (x k y : ℕ) → Returning b x k → waySteps * (k - 1) + 1 + n ≤ ceiling → Underway b n (In y (bare d c Done) (Peer x))
+    doneIn : (x k y : ℕ) → Returning b x k → tripSteps * (k - 1) + 1 + n ≤ ceiling → Underway b n (In y (bare d c Done) (Peer x))
     -- with no tunnel out of a point it is on its last way
-    doneBare : {j : ℕ} {x : Item} → Trip (bare d c Done) j x → j < waySteps → j + n ≤ ceiling → Underway b n x
+    doneBare : {j : ℕ} {x : Item} → Trip (bare d c Done) j x → j < tripSteps → j + n ≤ ceiling → Underway b n x

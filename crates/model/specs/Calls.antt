@@ -108,6 +108,10 @@ pub record Call : Type 0 where
   pub line : List ℕ
   pub size : ℕ
 
+-- a call with this line, and with room for any call's lines
+abbrev pub roomyCall : List ℕ → Call
+roomyCall line = record { line = line; size = 65536 }
+
 abbrev pub call : State → Call → Reply
 call s c = answered s (c .line) (c .size)
 

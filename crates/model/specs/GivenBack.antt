@@ -18,8 +18,8 @@ use Rattle.model.specs.Network.{noNode, nextHop}
 use Rattle.model.specs.NetworkText.{networkForms, networkLines, networkText}
 use Rattle.model.specs.State.{fresh}
 use Rattle.model.specs.Requests.{accepted, nodesGiven, leadsBack}
-use Rattle.model.specs.Calls.{answer, Reply, reported, short, answered, Call, after, replies}
-use Rattle.model.specs.Texts.{roomyCall, afterLines}
+use Rattle.model.specs.Calls.{answer, Reply, reported, short, answered, Call, after, replies, roomyCall}
+use Rattle.model.specs.Texts.{afterLines}
 
 -- ---- the networks that calls leave
 

@@ -1,11 +1,12 @@
--- The listings hold: what each call writes, and what session 1 holds at some moments of them. Proved in proofs/Listings. Assumes nothing.
+-- The listings hold: what each call writes, what session 1 holds at some moments of them, and how many of its steps are counted. Proved
+-- in proofs/Listings. Assumes nothing.
 use Prim.Native.Nat.{ℕ}
 use mathlib.Core.Path.{_≡_}
 use mathlib.Core.Bool.{Bool, true, false, cond, _&&_, _||_}
 use mathlib.Core.List.{List, [], _∷_, map}
 use mathlib.Core.Option.{some}
 use lib.Dec.{ltb, eqb}
-use lib.ListN.{take}
+use lib.ListN.{take, replicate}
 use Rattle.calculus.specs.declared.packet.Header.{Header}
 use Rattle.calculus.specs.declared.packet.Header.the-variants.{Bare, Tunnel}
 use Rattle.calculus.specs.declared.packet.Item.{Item}
@@ -25,10 +26,9 @@ use Rattle.forms.specs.Read.{read}
 use Rattle.forms.specs.Request.{asked}
 use Rattle.model.specs.Item.{isWait, vacant}
 use Rattle.model.specs.State.{fresh, load}
-use Rattle.model.specs.Calls.{Call, call, linesOf, after, replies}
-use Rattle.model.specs.Texts.{roomyCall}
+use Rattle.model.specs.Calls.{Call, call, linesOf, after, replies, roomyCall}
 use Rattle.model.specs.Noninterference.{View, view}
-use Rattle.model.specs.Termination.{setUpSteps}
+use Rattle.model.specs.Termination.{setUpSteps, afterRounds}
 use Rattle.model.specs.Listings.{Exchange, Listing, listings, listingA, listingB, listingC, listingF, dataInFirstOfThree, threeTunnels, waitsLeft, furtherExamples}
 
 -- ---- what is written
@@ -238,7 +238,9 @@ pub record Listings : Type 0 where
   pub further : map outputs furtherExamples ≡ map expected furtherExamples
   -- what no answer shows: stages, ends, items with their contents, rows in their order of age
   pub views : map (λ m. seenBehind (m .calls)) moments ≡ map (λ m. m .sees) moments
-  -- #103's count behind A to I: neither C's steps of Data nor refused ones are in it, A's second open begins it anew, H's close leaves it
+  -- #103's count behind A to I: C's steps of Data are not in it, A's second open begins it anew, H's close and session 2 leave it
   pub steps : map stepsBehind listings ≡ 0 ∷ 23 ∷ 10 ∷ 10 ∷ 23 ∷ 9 ∷ 33 ∷ 23 ∷ 0 ∷ []
-  -- and before that open, with three tunnels, and where only waits and Data are left
+  -- and before that open, with three tunnels, and where only waits and Data are left: refused steps are not in it
   pub furtherSteps : map stepsBehind (take 10 listingA ∷ threeTunnels ∷ waitsLeft ∷ []) ≡ 2 ∷ 69 ∷ 5 ∷ []
+  -- #103's rounds: in 23 of them, with nothing called between, B's set-up comes from its open to its end
+  pub rounds : view (afterRounds 1 (after fresh (map callOf (take 5 listingB))) (replicate 23 [])) 1 ≡ endOfB .sees

@@ -1,4 +1,4 @@
--- Packets: what is asked of a payload and of a header. Assumes nothing.
+-- Packets: their hop limit, and what is asked of a payload and of a header. Assumes nothing.
 use Prim.Native.Nat.{ℕ}
 use mathlib.Core.Bool.{Bool, true, false}
 use Rattle.calculus.specs.declared.packet.Payload.{Payload}
@@ -6,6 +6,10 @@ use Rattle.calculus.specs.declared.packet.Payload.the-variants.{Req, Rep, Disc,
 use Rattle.calculus.specs.declared.packet.Header.{Header}
 use Rattle.calculus.specs.declared.packet.Header.the-variants.{Bare, Tunnel}
 use Rattle.calculus.specs.declared.packet.Packet.{Packet}
+
+-- the hops that a packet starts with on a wire
+abbrev pub hopLimit : ℕ
+hopLimit = 32
 
 -- a packet from a to b with no header
 abbrev pub bare : ℕ → ℕ → Payload → Packet

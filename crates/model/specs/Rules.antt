@@ -30,7 +30,7 @@ use Rattle.calculus.specs.declared.session.Session.{Session}
 use Rattle.calculus.specs.declared.state.Part.{Part}
 use Rattle.calculus.specs.declared.network.Network.{Network}
 use Rattle.model.specs.Network.{isGateway, nextHop, hasAllNeeded}
-use Rattle.model.specs.Packet.{bare, under, target, isBare, isDataOrDone}
+use Rattle.model.specs.Packet.{hopLimit, bare, under, target, isBare, isDataOrDone}
 use Rattle.model.specs.Row.{held, inRow, outRow, newest, admits, spiOf}
 
 -- ---- effects
@@ -75,9 +75,13 @@ lastPoint (Disc p) = p
 lastPoint Done = 0
 lastPoint (Data tag) = 0
 
+-- the establishments that a session can begin
+abbrev pub establishmentLimit : ℕ
+establishmentLimit = 8
+
 -- "with 8 establishments begun"
 abbrev pub isExhausted : Session → Bool
-isExhausted s = leb 8 (s .begun)
+isExhausted s = leb establishmentLimit (s .begun)
 
 -- "begin the next e (from 1), write dwait(a), est(a, p, e)"
 abbrev pub begin : ℕ → ℕ → ℕ → Effect
@@ -111,7 +115,7 @@ headerTo a (Peer q) = Tunnel a q (spiOf true a q)
 
 -- out(a, packet)
 unfoldable pub outRule : List Row → ℕ → Packet → Effect
-outRule rows a p = writes (Wire a (under p (headerTo a (newest rows true a p))) 32)
+outRule rows a p = writes (Wire a (under p (headerTo a (newest rows true a p))) hopLimit)
 
 -- ---- up
 
@@ -181,7 +185,7 @@ grantRule s a q e Initiator =
 -- "at d write out(d, Done from d to c), else wire(a, Disc(a) from c to d, 32)"
 abbrev pub acknowledged : Session → ℕ → Item
 acknowledged s a =
-    cond (eqb a (s .server)) (Out a (bare (s .server) (s .client) Done)) (Wire a (bare (s .client) (s .server) (Disc a)) 32)
+    cond (eqb a (s .server)) (Out a (bare (s .server) (s .client) Done)) (Wire a (bare (s .client) (s .server) (Disc a)) hopLimit)
 
 -- ack(a, e)
 unfoldable pub ackRule : Session → ℕ → Effect

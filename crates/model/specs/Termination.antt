@@ -15,39 +15,35 @@ use Rattle.calculus.specs.declared.state.State.{State}
 use Rattle.forms.specs.Text.{Form, node, route, «open», step, send, close, show, net, text}
 use Rattle.forms.specs.Read.{read}
 use Rattle.model.specs.Lists.{place, All}
+use Rattle.model.specs.Packet.{hopLimit}
 use Rattle.model.specs.Item.{isWait, howManyItems}
+use Rattle.model.specs.Rules.{establishmentLimit}
 use Rattle.model.specs.State.{fresh, load, isNumbered}
 use Rattle.model.specs.Requests.{spent}
-use Rattle.model.specs.Calls.{Call, call, after, isOwn}
+use Rattle.model.specs.Calls.{answered, Call, roomyCall, call, after, isOwn}
 use Rattle.model.specs.SetUp.{isSetUpItem, itemAt}
 
 -- ---- the ceiling
 
--- the hops that a packet starts with, and the establishments that a session can begin
-abbrev pub hops : ℕ
-hops = 32
-
-abbrev pub establishments : ℕ
-establishments = 8
-
 -- a packet on a wire: a step for each hop, and one that takes it off the wire
 abbrev pub wireSteps : ℕ
-wireSteps = hops + 1
+wireSteps = hopLimit + 1
 
--- a packet's way, bare or through one tunnel: out, wire, up, in
-abbrev pub waySteps : ℕ
-waySteps = 1 + wireSteps + 1 + 1
+-- a packet's trip, bare or through one tunnel: out, wire, up, in
+abbrev pub tripSteps : ℕ
+tripSteps = 1 + wireSteps + 1 + 1
 
 -- the Disc, est, the Req, the responder's auth and grant, the Rep, the initiator's auth and grant, ack
 abbrev pub establishmentSteps : ℕ
-establishmentSteps = wireSteps + 1 + waySteps + 1 + 1 + waySteps + 1 + 1 + 1
+establishmentSteps = wireSteps + 1 + tripSteps + 1 + 1 + tripSteps + 1 + 1 + 1
 
--- "8 establishments of 111 steps and a Done through 8 tunnels of 36". A Disc that is lost behind the eighth has no Done after it
+-- "8 establishments of 111 steps and a Done through 8 tunnels of 36". Instead of the Done one more Disc can come, which takes fewer
 abbrev pub ceiling : ℕ
-ceiling = establishments * establishmentSteps + establishments * waySteps
+ceiling = establishmentLimit * establishmentSteps + establishmentLimit * tripSteps
 
 -- ---- the count
 
+-- not refused
 abbrev pub isAccepted : Option Refusal → Bool
 isAccepted (some r) = false
 isAccepted none = true
@@ -79,18 +75,14 @@ setUpSteps u s n (c ∷ cs) = setUpSteps u (call s c .state) (callCount u s n c)
 abbrev pub isActive : Item → Bool
 isActive i = isSetUpItem i && not (isWait i)
 
--- "unless the session's numbers are spent", no such item pends
+-- "only waits and Data items are left", unless the numbers are spent
 abbrev pub Settled : Part → Type 0
 Settled t = spent t ≡ false → howManyItems isActive (t .items) ≡ 0
 
--- `(step u k)`, with a lent output of `size` bytes
-abbrev pub stepCall : ℕ → ℕ → ℕ → Call
-stepCall u size k = record { line = text (step u k); size = size }
-
--- a step call of session u for each of those items
+-- a step call of session u for each item that is neither a wait nor Data
 abbrev pub activeSteps : ℕ → List Slot → List Call
 activeSteps u [] = []
-activeSteps u (x ∷ l) = cond (isActive (x .item)) (stepCall u 65536 (x .number .0) ∷ activeSteps u l) (activeSteps u l)
+activeSteps u (x ∷ l) = cond (isActive (x .item)) (roomyCall (text (step u (x .number .0))) ∷ activeSteps u l) (activeSteps u l)
 
 -- the state after rounds: in each come calls of anyone, and then those items are stepped
 unfoldable pub afterRounds : ℕ → State → List (List Call) → State
@@ -120,17 +112,19 @@ opens u c = formOpens u (read (c .line))
 pub record Terminates (cs : List Call) (u : ℕ) : Type 0 where
   -- "At most 1,176 of them are ever accepted, in any order and mixed with anything of others"
   pub bounded : setUpSteps u fresh 0 cs ≤ ceiling
-  -- "any pending item that is neither a wait nor Data can be stepped"
-  pub progress : (size : ℕ) → 65536 ≤ size →
+  -- "Unless the session's numbers are spent, any pending item that is neither a wait nor Data can be stepped": its step call is not
+  -- refused
+  pub progress :
       let s = after fresh cs in
       let t = load s u in
-      spent t ≡ false → All (λ x. isActive (x .item) ≡ true → call s (stepCall u size (x .number .0)) .refusal ≡ none) (t .items)
+      spent t ≡ false → (size : ℕ) → 65536 ≤ size
+      → All (λ x. isActive (x .item) ≡ true → answered s (text (step u (x .number .0))) size .refusal ≡ none) (t .items)
   -- "so in the end only waits and Data items are left": after as many rounds as the ceiling leaves steps, whatever is called in them
-  -- but an open that begins anew
+  -- except an open of the session, which begins anew
   pub settles : (rounds : List (List Call)) → All (All (λ c. opens u c ≡ false)) rounds → ceiling ≤ setUpSteps u fresh 0 cs + length rounds
       → Settled (load (afterRounds u (after fresh cs) rounds) u)
 
 pub record Termination : Type 0 where
-  pub figures : (waySteps ≡ 36) × (establishmentSteps ≡ 111) × (ceiling ≡ 1176)
+  pub figures : (tripSteps ≡ 36) × (establishmentSteps ≡ 111) × (ceiling ≡ 1176)
   -- after any list of calls, node and route calls anywhere in it
   pub holds : (cs : List Call) (u : ℕ) → isSession u ≡ true → Terminates cs u

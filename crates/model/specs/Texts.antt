@@ -6,12 +6,8 @@ use lib.ListN.{length, drop}
 use Rattle.calculus.specs.declared.state.State.{State}
 use Rattle.forms.specs.Bytes.{joined}
 use Rattle.forms.specs.Line.{lineLength, lines}
-use Rattle.model.specs.Calls.{Call, linesOf, after, replies}
+use Rattle.model.specs.Calls.{linesOf, after, replies, roomyCall}
 use Rattle.model.specs.Batch.{Batch, answeredText}
-
--- a call with this line, and with room for any call's lines
-abbrev pub roomyCall : List ℕ → Call
-roomyCall line = record { line = line; size = 65536 }
 
 -- the state that the lines ls leave of s, each a call
 abbrev pub afterLines : State → List (List ℕ) → State
