@@ -22,7 +22,7 @@ use Rattle.calculus.specs.declared.packet.Item.the-variants.{Wire, Out, Est}
 use Rattle.calculus.specs.declared.state.Part.{Part}
 use Rattle.model.specs.Lists.{All}
 use Rattle.model.specs.Network.{isGateway, nextHop, hasAllNeeded}
-use Rattle.model.specs.Packet.{bare, under}
+use Rattle.model.specs.Packet.{hopLimit, bare, under}
 use Rattle.model.specs.Row.{held, newest, admits}
 use Rattle.model.specs.Rules.{lost, writes, isExhausted, begin, discovers, headerTo, unprotected, onward, wireRule, outRule, upRule, sameVia, agrees, received, inRule, estRule, authRule, grantRule, acknowledged, ackRule, rule}
 use Rattle.model.specs.State.{begunAfter, addedRows}
@@ -132,7 +132,7 @@ module _ (net : Network) (standing : ℕ → ℕ → Bool) (t : Part) (n : ℕ) 
         (record { between = w .between; server = eqb-true (point b) d e; here = refl; least = omega (arith, w .number); most = omega arith })
         (omega (arith, w .few)))
         (λ e.
-        discovering (point b) 32
+        discovering (point b) hopLimit
         (record {
           between = w .between;
           before = eqb-false (point b) d e;
@@ -142,9 +142,9 @@ module _ (net : Network) (standing : ℕ → ℕ → Bool) (t : Part) (n : ℕ) 
         }))
 
     -- through the matching tunnel, or bare
-    done-out : (v : Via) (x k : ℕ) → Returning net c d b x k → tripSteps * k + n ≤ ceiling → After (writes (Wire x (under (bare d c Done) (headerTo x v)) 32))
-    done-out Untunnelled x k w m = wrote (omega (arith, w .least)) (doneBare (onWire x 32) (omega arith) (omega (arith, w .least)))
-    done-out (Peer q) x k w m = wrote (omega (arith, w .least)) (doneOnWire x k q _ x 32 w (omega (arith, w .least)))
+    done-out : (v : Via) (x k : ℕ) → Returning net c d b x k → tripSteps * k + n ≤ ceiling → After (writes (Wire x (under (bare d c Done) (headerTo x v)) hopLimit))
+    done-out Untunnelled x k w m = wrote (omega (arith, w .least)) (doneBare (onWire x hopLimit) (omega arith) (omega (arith, w .least)))
+    done-out (Peer q) x k w m = wrote (omega (arith, w .least)) (doneOnWire x k q _ x hopLimit w (omega (arith, w .least)))
 
     -- out of the tunnel from x, and on from y, which is the point before
     done-through : (x k y : ℕ) → Returning net c d b x k → tripSteps * (k - 1) + 1 + n ≤ ceiling

@@ -22,7 +22,7 @@ use Rattle.forms.specs.Read.{read}
 use Rattle.forms.specs.Request.{rising, asked}
 use Rattle.model.specs.Lists.{place}
 use Rattle.model.specs.Network.{isGateway}
-use Rattle.model.specs.Packet.{bare}
+use Rattle.model.specs.Packet.{hopLimit, bare}
 use Rattle.model.specs.Row.{areNodes}
 use Rattle.model.specs.Rules.{rule}
 use Rattle.model.specs.State.{fresh, load, isNumbered}
@@ -50,19 +50,16 @@ unused-tracked network t h u n few =
     record { few = few; items = all-unused (Tracks network _ _ _ n) (λ o. never o) t h u; rows = rw (h .idle u .0) tt }
 
 -- the part that is seen has the count m, or n where the call is refused
-abbrev Tallies : Network → ℕ → ℕ → Seen → Type 0
-Tallies network n m x = Tracked network (x .part) (cond (isAccepted (x .refusal)) m n)
+abbrev Counts : Network → ℕ → ℕ → Seen → Type 0
+Counts network n m x = Tracked network (x .part) (cond (isAccepted (x .refusal)) m n)
 
 module _ (network : Network) (t : Part) (h : Sane t) (n : ℕ) (k : Tracked network t n) where
-  abbrev Counts : ℕ → Seen → Type 0
-  Counts m x = Tallies network n m x
-
-  counts-step : (i : ℕ) → Counts (cond (isSetUpItem (itemAt (t .items) (place (isNumbered i) (t .items)))) (n + 1) n) (seenMove t (stepMove network areNodes i t))
+  counts-step : (i : ℕ) → Counts network n (cond (isSetUpItem (itemAt (t .items) (place (isNumbered i) (t .items)))) (n + 1) n) (seenMove t (stepMove network areNodes i t))
   unfolding stepMove stepAt stepped
   counts-step i =
       let at = place (isNumbered i) (t .items) in
       let item = itemAt (t .items) at in
-      checked-either (λ (m : Move). Counts (cond (isSetUpItem item) (n + 1) n) (seenMove t m)) refuse (λ r. k) _
+      checked-either (λ (m : Move). Counts network n (cond (isSetUpItem item) (n + 1) n) (seenMove t m)) refuse (λ r. k) _
       (λ e.
       rw (outcome-answers (t .session .last .0) (rule network areNodes t item .outcome))
       (step-tracked network areNodes t h n k at (leb-false 16 at (e .1 .0)) (e .1 .1 .0)))
@@ -73,8 +70,8 @@ module _ (network : Network) (t : Part) (h : Sane t) (n : ℕ) (k : Tracked netw
   tracked-opening c d u o =
       let i = h .idle u in
       let P = Tracks network c d (t .session .begun) 0 in
-      let first : Underway network c d 0 0 (Wire c (bare c d (Disc c)) 32) =
-      discovering c 32
+      let first : Underway network c d 0 0 (Wire c (bare c d (Disc c)) hopLimit) =
+      discovering c hopLimit
       (record {
         between = record { server = λ i m. absurd (omega arith); client = λ i l m. absurd (omega arith) };
         before = o .apart;
@@ -84,22 +81,22 @@ module _ (network : Network) (t : Part) (h : Sane t) (n : ℕ) (k : Tracked netw
       }) in
       record {
         few = omega arith;
-        items = all-put P (t .items) (nextNumber t) (Wire c (bare c d (Disc c)) 32) (all-unused P (λ e. never e) t h u) (λ e. (o, rw (i .1) first));
+        items = all-put P (t .items) (nextNumber t) (Wire c (bare c d (Disc c)) hopLimit) (all-unused P (λ e. never e) t h u) (λ e. (o, rw (i .1) first));
         rows = rw (i .0) tt;
       }
 
-  counts-open : (c d : ℕ) → Counts 0 (seenMove t (openMove network c d t))
+  counts-open : (c d : ℕ) → Counts network n 0 (seenMove t (openMove network c d t))
   unfolding openMove
   counts-open c d =
-      checked-either (λ (m : Move). Counts 0 (seenMove t m)) refuse (λ r. k) _
+      checked-either (λ (m : Move). Counts network n 0 (seenMove t m)) refuse (λ r. k) _
       (λ e.
       tracked-opening c d (not-false (unused t) (e .0))
       (record { no-gateway = neither (isGateway network c) (isGateway network d) (e .1 .1 .1 .0) .0; apart = eqb-false c d (e .1 .1 .0) }))
 
-  counts-send : (w : Sender) (tag : ℕ) → Counts n (seenMove t (sendMove w tag t))
+  counts-send : (w : Sender) (tag : ℕ) → Counts network n n (seenMove t (sendMove w tag t))
   unfolding sendMove sending
   counts-send w tag =
-      checked-either (λ (m : Move). Counts n (seenMove t m)) refuse (λ r. k) _
+      checked-either (λ (m : Move). Counts network n n (seenMove t m)) refuse (λ r. k) _
       (λ e.
       record {
         few = k .few;
@@ -107,29 +104,29 @@ module _ (network : Network) (t : Part) (h : Sane t) (n : ℕ) (k : Tracked netw
         rows = k .rows;
       })
 
-  counts-close : Counts n (seenMove t (closeMove t))
+  counts-close : Counts network n n (seenMove t (closeMove t))
   unfolding closeMove closing
   counts-close =
-      checked-either (λ (m : Move). Counts n (seenMove t m)) refuse (λ r. k) _
+      checked-either (λ (m : Move). Counts network n n (seenMove t m)) refuse (λ r. k) _
       (λ e. unused-tracked network _ (sane-empty (t .session .last .0) (h .last)) refl n (k .few))
 
   -- ---- a line
 
-  counts-line : (o : Option Form) → Counts (formCount (t .items) n o) (seenParsed network t (asked o .parsed))
+  counts-line : (o : Option Form) → Counts network n (formCount (t .items) n o) (seenParsed network t (asked o .parsed))
   counts-line (some (node a x has needs)) =
-      either (λ (r : Reading). Counts n (seenParsed network t (r .parsed))) (isNode a && (rising 0 has && rising 0 needs)) (λ e. k) (λ e. k)
-  counts-line (some (route a b next)) = ranged-seen (Counts n) network t k (isNode a && (isNode b && isNode next)) _ k
-  counts-line (some («open» u c d)) = ranged-seen (Counts 0) network t k (isSession u && (isNode c && isNode d)) _ (counts-open c d)
-  counts-line (some (step u i)) = ranged-seen (Counts _) network t k (isSession u && isItem i) _ (counts-step i)
-  counts-line (some (send u w tag)) = ranged-seen (Counts n) network t k (isSession u && (within 0 1 w && isTag tag)) _ (counts-send _ tag)
-  counts-line (some (close u)) = ranged-seen (Counts n) network t k (isSession u) _ counts-close
+      either (λ (r : Reading). Counts network n n (seenParsed network t (r .parsed))) (isNode a && (rising 0 has && rising 0 needs)) (λ e. k) (λ e. k)
+  counts-line (some (route a b next)) = ranged-seen (Counts network n n) network t k (isNode a && (isNode b && isNode next)) _ k
+  counts-line (some («open» u c d)) = ranged-seen (Counts network n 0) network t k (isSession u && (isNode c && isNode d)) _ (counts-open c d)
+  counts-line (some (step u i)) = ranged-seen (Counts network n _) network t k (isSession u && isItem i) _ (counts-step i)
+  counts-line (some (send u w tag)) = ranged-seen (Counts network n n) network t k (isSession u && (within 0 1 w && isTag tag)) _ (counts-send _ tag)
+  counts-line (some (close u)) = ranged-seen (Counts network n n) network t k (isSession u) _ counts-close
   counts-line (some show) = k
   counts-line (some net) = k
   counts-line none = k
 
-  counts-local : (c : Call) → Counts (formCount (t .items) n (read (c .line))) (local network t c)
+  counts-local : (c : Call) → Counts network n (formCount (t .items) n (read (c .line))) (local network t c)
   unfolding local
-  counts-local c = either (Counts (formCount (t .items) n (read (c .line)))) (ltb (c .size) 65536) (λ e. k) (λ e. counts-line (read (c .line)))
+  counts-local c = either (Counts network n (formCount (t .items) n (read (c .line)))) (ltb (c .size) 65536) (λ e. k) (λ e. counts-line (read (c .line)))
 
 -- ---- calls
 
@@ -151,7 +148,7 @@ module _ (u : ℕ) (hu : Numbered u) where
       go : Way (isOwn u c) → Tracked (call s c .state .network) (load (call s c .state) u) (callCount u s n c)
       go (is e) =
           rw (e, call-network s c (own-gives-nothing u c e))
-          (subst (Tallies (s .network) n (formCount (load s u .items) n (read (c .line))))
+          (subst (Counts (s .network) n (formCount (load s u .items) n (read (c .line))))
           (sym (call-own s (k .good) u hu c e)) (counts-local (s .network) (load s u) (k .sane u hu) n (h .tracked) c))
       go (isnt e) =
           rw (e, call-others s (k .good) c u hu e)

@@ -17,7 +17,7 @@ use Rattle.calculus.specs.declared.packet.Via.the-variants.{Untunnelled, Peer}
 use Rattle.calculus.specs.declared.session.Row.{Row}
 use Rattle.model.specs.Lists.{All}
 use Rattle.model.specs.Network.{isGateway, nextHop}
-use Rattle.model.specs.Packet.{bare}
+use Rattle.model.specs.Packet.{hopLimit, bare}
 use Rattle.model.specs.Row.{outRow, inRow, skips, fits, newest}
 use Rattle.model.specs.Rules.{discovers}
 use Rattle.model.proofs.Lists.{all-map}
@@ -37,7 +37,7 @@ walk net d p (suc h) a = cond (discovers (isGateway net a) d a (Disc p)) a (atNe
 -- the i-th tunnel point between c and d: c, and then what each one's Disc comes to
 unfoldable pub points : Network → ℕ → ℕ → ℕ → ℕ
 points net c d zero = c
-points net c d (suc i) = walk net d (points net c d i) 32 (points net c d i)
+points net c d (suc i) = walk net d (points net c d i) hopLimit (points net c d i)
 
 module _ (net : Network) (d p : ℕ) where
   pub walk-found : (h a : ℕ) → discovers (isGateway net a) d a (Disc p) ≡ true → walk net d p h a ≡ a
@@ -55,10 +55,10 @@ module _ (net : Network) (c d : ℕ) where
   abbrev point : ℕ → ℕ
   point i = points net c d i
 
-  pub points-next : (i e : ℕ) → e ≡ i + 1 → point e ≡ walk net d (point i) 32 (point i)
+  pub points-next : (i e : ℕ) → e ≡ i + 1 → point e ≡ walk net d (point i) hopLimit (point i)
   unfolding points
   points-next i zero h = absurd (omega arith)
-  points-next i (suc e) h = let w : e ≡ i = omega arith in ap (λ (z : ℕ). walk net d (point z) 32 (point z)) w
+  points-next i (suc e) h = let w : e ≡ i = omega arith in ap (λ (z : ℕ). walk net d (point z) hopLimit (point z)) w
 
   pub after-client : (i : ℕ) → (point i ≡ c → ⊥) → 1 ≤ i
   unfolding points
@@ -88,7 +88,7 @@ module _ (net : Network) (c d : ℕ) where
       let v : a ≡ i = omega arith in
       let w : j ≡ b = omega arith in
       ap point v ∙ e ∙ ap point w
-  same-later (suc m) i j e a b x y = same-later m (suc i) (suc j) (ap (λ (z : ℕ). walk net d z 32 z) e) a b (omega arith) (omega arith)
+  same-later (suc m) i j e a b x y = same-later m (suc i) (suc j) (ap (λ (z : ℕ). walk net d z hopLimit z) e) a b (omega arith) (omega arith)
 
   -- before the server every point is met once
   once : (k : ℕ) → Between k → point k ≡ d → (i j : ℕ) → point i ≡ point j → j ≤ k → i < j → ⊥

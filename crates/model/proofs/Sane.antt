@@ -21,7 +21,7 @@ use Rattle.calculus.specs.declared.request.Sender.the-variants.{Client, Server}
 use Rattle.calculus.specs.declared.session.Stage.{Stage}
 use Rattle.calculus.specs.declared.state.Part.{Part}
 use Rattle.model.specs.Network.{given}
-use Rattle.model.specs.Packet.{bare}
+use Rattle.model.specs.Packet.{hopLimit, bare}
 use Rattle.model.specs.Item.{isFree, isWait, isThatWait, vacant, isDataItem, howManyItems}
 use Rattle.model.specs.Row.{held}
 use Rattle.model.specs.Rules.{rule}
@@ -182,7 +182,7 @@ module _ (t : Part) (h : Sane t) where
   unfolding opening uses space carries active due
   sane-opening c d u l hc hd ne =
       let z : spare (t .session .stage) ≡ 3 = rw u in
-      let i = Wire c (bare c d (Disc c)) 32 in
+      let i = Wire c (bare c d (Disc c)) hopLimit in
       sane-item Stage.SettingUp c d i refl l hc hd
       (all-unused (Named d) tt t h u)
       (hc, bare-named c d (Disc c) hc hd, λ e. (hc, ne, refl, refl), omega arith)

@@ -56,7 +56,7 @@ pub record Tracked (net : Network) (t : Part) (n : ℕ) : Type 0 where
 abbrev pub Inactive : Item → Type 0
 Inactive i = isActive i ≡ false
 
-pub active-one : (i : Item) → isActive i ≡ true → active i ≡ 1
+active-one : (i : Item) → isActive i ≡ true → active i ≡ 1
 unfolding active
 active-one i e = rw e
 

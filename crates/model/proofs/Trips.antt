@@ -18,7 +18,7 @@ use Rattle.calculus.specs.declared.packet.Item.{Item}
 use Rattle.calculus.specs.declared.packet.Item.the-variants.{Wire, Out, Up, In}
 use Rattle.calculus.specs.declared.state.Part.{Part}
 use Rattle.model.specs.Network.{isGateway, nextHop}
-use Rattle.model.specs.Packet.{bare}
+use Rattle.model.specs.Packet.{hopLimit, bare}
 use Rattle.model.specs.Row.{held, newest}
 use Rattle.model.specs.Rules.{lost, writes, discovers, unprotected, onward, wireRule, outRule, upRule, agrees, received, inRule, rule}
 use Rattle.model.specs.Termination.{tripSteps}
@@ -54,7 +54,7 @@ module _ (n : Network) (standing : ℕ → ℕ → Bool) (t : Part) (x z : ℕ) 
   -- where it is still to be sent, it is sent bare
   pub travels : {j : ℕ} {i : Item} → (tripSteps ≤ j → newest (held t) true x packet ≡ Untunnelled) → Trip packet j i → Travels packet j (rule n standing t i)
   unfolding rule outRule wireRule upRule inRule
-  travels none sent = rw (none (omega arith)) (further 35 _ (onWire x 32) (omega arith))
+  travels none sent = rw (none (omega arith)) (further (hopLimit + 3) _ (onWire x hopLimit) (omega arith))
   travels none (onWire a h) =
       let P = Travels packet (h + 3) in
       either P (discovers (isGateway n a) (t .session .server) a y) (λ e. never (sym (quiet _ _ _) ∙ e))

@@ -328,7 +328,7 @@ shownInOrder =
     ⇒ "(assoc 1 in 2 257 1)\n(assoc 1 in 10 265 1)\n(assoc 1 out 2 288 1)\n(assoc 1 out 10 544 1)\n(assoc 2 in 1 288 1)\n(assoc 2 out 1 257 1)\n(assoc 10 in 1 544 1)\n(assoc 10 out 1 265 1)\n(end)"
     ∷ []
 
--- #103: the Req is lost, and what is left are its two waits, for ever, and data that was sent since
+-- #103: the Req is lost, and what is left are its two waits, until a close, and data that was sent since
 abbrev pub waitsLeft : Listing
 waitsLeft =
     oneWay
