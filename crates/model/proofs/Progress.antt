@@ -6,7 +6,7 @@ use Prim.Native.Nat.{ℕ, _+_, _≤_, _<_}
 use native.Mathlib.Omega.{arith}
 use lib.ListN.{length, getD}
 use borrow.Author.Tests.{le-ltb, lt-leb, eq-eqb, not-true}
-use Rattle.calculus.proofs.Tests.{is, both, never, not-so, bounds-within, within-bounds}
+use Rattle.calculus.proofs.Tests.{both, never, not-so, bounds-within, within-bounds}
 use Rattle.calculus.specs.Number.{within, isSession}
 use Rattle.calculus.specs.declared.network.Network.{Network}
 use Rattle.calculus.specs.declared.packet.Item.{Item}
@@ -21,12 +21,11 @@ use Rattle.model.specs.Rules.{rule}
 use Rattle.model.specs.Item.{isWait}
 use Rattle.model.specs.State.{load, blankSlot, isNumbered}
 use Rattle.model.specs.Requests.{Move, refuse, unused, spent, stepped, stepAt, stepMove}
-use Rattle.model.specs.Calls.{answered, roomyCall, call, formNames}
+use Rattle.model.specs.Calls.{answered, roomyCall, formNames}
 use Rattle.model.specs.SetUp.{isPending, isSetUpItem, itemAt}
 use Rattle.model.specs.Termination.{callCount, isActive, formOpens}
 use Rattle.model.proofs.Checks.{one, checked-passed}
 use Rattle.model.proofs.Lists.{all-get, tally-at, place-once}
-use Rattle.model.proofs.Weights.{counted}
 use Rattle.model.proofs.Sane.{At, Sane, all-unused}
 use Rattle.model.proofs.Tracked.{Inactive}
 use Rattle.model.proofs.Local.{Seen, seenMove, local, call-own}

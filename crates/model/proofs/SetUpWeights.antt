@@ -1,4 +1,5 @@
--- The weights of a set-up: the waits that an item is to use up, the places that it holds, the rows that it will add. Assumes nothing.
+-- The weights of a set-up: the waits that an item is to use up, the places that it holds, whether it is neither a wait nor Data, the rows
+-- that it will add. Assumes nothing.
 use mathlib.Core.Path.{_≡_, refl}
 use mathlib.Core.Bool.{Bool, true, false, cond, not, _&&_}
 use mathlib.Core.List.{List}

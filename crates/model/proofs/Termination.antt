@@ -32,13 +32,13 @@ use Rattle.model.proofs.Progress.{no-open, its-refusal, its-count}
 -- ---- rounds
 
 -- the step call of the item at place `at`
-abbrev stepAt : ℕ → List Slot → ℕ → Call
-stepAt u l at = roomyCall (text (step u (getD l at blankSlot .number .0)))
+abbrev stepCallAt : ℕ → List Slot → ℕ → Call
+stepCallAt u l at = roomyCall (text (step u (getD l at blankSlot .number .0)))
 
 -- the step calls of a session of whose items one at most is neither a wait nor Data
 data Steps (u : ℕ) (l : List Slot) : List Call → Type 0 where
   noStep : howManyItems isActive l ≡ 0 → Steps u l []
-  oneStep : (at : ℕ) → at < length l → isActive (itemAt l at) ≡ true → Steps u l (stepAt u l at ∷ [])
+  oneStep : (at : ℕ) → at < length l → isActive (itemAt l at) ≡ true → Steps u l (stepCallAt u l at ∷ [])
 
 no-steps : (u : ℕ) (l : List Slot) → howManyItems isActive l ≡ 0 → activeSteps u l ≡ []
 no-steps u [] h = refl
@@ -94,7 +94,7 @@ module _ (u : ℕ) (q : isSession u ≡ true) where
   round s n f k g cs (oneStep at b e) = go (way (spent (load s u))) g
     where
       c : Call
-      c = stepAt u (load s u .items) at
+      c = stepCallAt u (load s u .items) at
 
       stays : Settled (load s u) → Ending (call s c .state) (callCount u s n c) k
       stays g = inl (call-settled u hu s (f .sound) c (no-open s (f .sound) u q at b e) g)
@@ -111,7 +111,7 @@ module _ (u : ℕ) (q : isSession u ≡ true) where
       go : (cs : List Call) → Steps u (load s u .items) cs → howManyItems isActive (load s u .items) ≡ 0
       go cs (noStep z) = z
       go cs (oneStep at b e) =
-          absurd (omega (arith, its-count s (f .sound) u q at b e l n, call-follows u hu s n f (stepAt u (load s u .items) at) .tracked .few))
+          absurd (omega (arith, its-count s (f .sound) u q at b e l n, call-follows u hu s n f (stepCallAt u (load s u .items) at) .tracked .few))
 
   settle : (rounds : List (List Call)) → All (All (λ c. opens u c ≡ false)) rounds → (s : State) (n : ℕ) → Follows u s n
       → Ending s n (length rounds) → Settled (load (afterRounds u s rounds) u)
