@@ -14,6 +14,10 @@ within low high n = leb low n && leb n high
 abbrev pub isNode : ℕ → Bool
 isNode = within 1 32
 
+-- b is a route's destination: a node, or 0, which "is in range for a route alone"
+abbrev pub isDestination : ℕ → Bool
+isDestination = within 0 32
+
 -- "Sessions 1 to 8"
 abbrev pub isSession : ℕ → Bool
 isSession = within 1 8

@@ -80,6 +80,7 @@ impl Loss {
 pub enum Answer {
     Ok,
     Made(ItemNumber),
+    MadeByDefault(ItemNumber),
     MadeTwo(ItemNumber, ItemNumber),
     Lost(Loss),
     Denied,

@@ -6,6 +6,8 @@ use crate::session::Row;
 // What comes of a step: the items that it writes, the first named with the lower number, or why it writes none.
 pub enum Outcome {
     Wrote(Item),
+    // an item that a default route moved
+    WroteByDefault(Item),
     WroteTwo(Item, Item),
     Lost(Loss),
     Denied,

@@ -14,14 +14,16 @@ pub struct Node {
     pub needs: [bool; 64],
 }
 
-// Node a stands at a − 1; the next hop from a for b at 32 × (a − 1) + (b − 1), 0 where there is no route.
+// Node a stands at a − 1; the next hop from a for destination b at 33 × (a − 1) + b, 0 where there is no route. Destination 0 is
+// the default's.
 pub struct Network {
     pub nodes: [Node; 32],
-    pub routes: [u8; 1024],
+    pub routes: [u8; 1056],
 }
 
-// What the routes give from one node for another.
+// What the routes give from one node for another: the next node of a route to it, or of the default route, or none.
 pub enum NextHop {
-    Found(u8),
+    Exact(u8),
+    Default(u8),
     Missing,
 }

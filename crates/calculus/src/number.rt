@@ -16,6 +16,13 @@ pub fn is_node(n: u64) -> bool
     within(n, 1, 32)
 }
 
+// Whether `n` is a route's destination: a node's number, or 0 for the default.
+pub fn is_destination(n: u64) -> bool
+    ensures { λ r. ⌜ r ≡ spec.isDestination n ⌝ }
+{
+    within(n, 0, 32)
+}
+
 // Whether `n` is a session's number.
 pub fn is_session(n: u64) -> bool
     ensures { λ r. ⌜ r ≡ spec.isSession n ⌝ }

@@ -29,6 +29,7 @@ fn written(items: [Slot; 16], n: ItemNumber, o: Outcome) -> [Slot; 16]
 {
     match o {
         Outcome::Wrote(i) => put_item(items, ItemNumber(n.0 + 1), i),
+        Outcome::WroteByDefault(i) => put_item(items, ItemNumber(n.0 + 1), i),
         Outcome::WroteTwo(i, j) => {
             let one = put_item(items, ItemNumber(n.0 + 1), i);
             put_item(one, ItemNumber(n.0 + 2), j)
@@ -47,6 +48,7 @@ fn last_after(n: ItemNumber, o: Outcome) -> ItemNumber
 {
     match o {
         Outcome::Wrote(_) => ItemNumber(n.0 + 1),
+        Outcome::WroteByDefault(_) => ItemNumber(n.0 + 1),
         Outcome::WroteTwo(_, _) => ItemNumber(n.0 + 2),
         Outcome::Lost(_) => n,
         Outcome::Denied => n,
@@ -62,6 +64,7 @@ pub fn answer_of(n: ItemNumber, o: Outcome) -> Answer
 {
     match o {
         Outcome::Wrote(_) => Answer::Made(ItemNumber(n.0 + 1)),
+        Outcome::WroteByDefault(_) => Answer::MadeByDefault(ItemNumber(n.0 + 1)),
         Outcome::WroteTwo(_, _) => Answer::MadeTwo(ItemNumber(n.0 + 1), ItemNumber(n.0 + 2)),
         Outcome::Lost(l) => Answer::Lost(l),
         Outcome::Denied => Answer::Denied,
@@ -75,6 +78,7 @@ fn stage_after(g: Stage, o: Outcome) -> Stage
 {
     match o {
         Outcome::Wrote(_) => g,
+        Outcome::WroteByDefault(_) => g,
         Outcome::WroteTwo(_, _) => g,
         Outcome::Lost(_) => g,
         Outcome::Denied => Stage::Denied,

@@ -154,6 +154,7 @@ fn put_losses() {
 fn put_answers() {
     put_answer(Answer::Ok);
     put_answer(Answer::Made(ItemNumber(3)));
+    put_answer(Answer::MadeByDefault(ItemNumber(1000000)));
     put_answer(Answer::MadeTwo(ItemNumber(999999), ItemNumber(1000000)));
     put_answer(Answer::Denied);
     put_answer(Answer::Opened);

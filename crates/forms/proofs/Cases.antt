@@ -5,7 +5,7 @@ use Prim.Native.String.{String}
 use lib.ListN.{replicate}
 use mathlib.Core.Bool.{false}
 use mathlib.Core.Option.{none, some}
-use Rattle.calculus.specs.declared.answer.Answer.the-variants.{Ok, Made, MadeTwo, Lost, Delivered, No}
+use Rattle.calculus.specs.declared.answer.Answer.the-variants.{Ok, Made, MadeByDefault, MadeTwo, Lost, Delivered, No}
 use Rattle.calculus.specs.declared.answer.Loss.the-variants.{HopLimit}
 use Rattle.calculus.specs.declared.answer.Refusal.the-variants.{Waiting, Range}
 use Rattle.calculus.specs.declared.network.Kind.the-variants.{Host, Gateway}
@@ -56,8 +56,8 @@ out-of-range = refl
 
 -- ---- answers
 
-answers : map answerText (Ok ∷ Made (record { 0 = 3 }) ∷ MadeTwo (record { 0 = 3 }) (record { 0 = 4 }) ∷ Lost HopLimit ∷ Delivered 77 ∷ No Waiting ∷ [])
-    ≡ map bytes ("(ok)\n" ∷ "(made 3)\n" ∷ "(made 3 4)\n" ∷ "(lost 2)\n" ∷ "(delivered 77)\n" ∷ "(no 12)\n" ∷ [])
+answers : map answerText (Ok ∷ Made (record { 0 = 3 }) ∷ MadeByDefault (record { 0 = 5 }) ∷ MadeTwo (record { 0 = 3 }) (record { 0 = 4 }) ∷ Lost HopLimit ∷ Delivered 77 ∷ No Waiting ∷ [])
+    ≡ map bytes ("(ok)\n" ∷ "(made 3)\n" ∷ "(made 5 default)\n" ∷ "(made 3 4)\n" ∷ "(lost 2)\n" ∷ "(delivered 77)\n" ∷ "(no 12)\n" ∷ [])
 unfolding answerText listText decimal digitsOf
 answers = refl
 

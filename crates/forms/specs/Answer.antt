@@ -4,7 +4,7 @@ use mathlib.Core.Bool.{Bool, true, false}
 use mathlib.Core.List.{List, [], _∷_, _++_}
 use Rattle.calculus.specs.Answer.{refusalNumber, lossNumber}
 use Rattle.calculus.specs.declared.answer.Answer as answer
-use Rattle.calculus.specs.declared.answer.Answer.the-variants.{Ok, Made, MadeTwo, Lost, Denied, Opened, Delivered, Closed, No}
+use Rattle.calculus.specs.declared.answer.Answer.the-variants.{Ok, Made, MadeByDefault, MadeTwo, Lost, Denied, Opened, Delivered, Closed, No}
 use Rattle.calculus.specs.declared.answer.ShownAssociation.{ShownAssociation}
 use Rattle.forms.specs.Bytes.{bytes, decimal, joined}
 use Rattle.forms.specs.Text.{listText}
@@ -13,10 +13,15 @@ use Rattle.forms.specs.Text.{listText}
 abbrev pub lineText : List ℕ → List ℕ → List ℕ
 lineText word ns = word ++ (listText ns ++ bytes "\n")
 
+-- "(made 5 default)", with its newline
+abbrev pub byDefaultLine : ℕ → List ℕ
+byDefaultLine n = joined (bytes "(made " ∷ decimal n ∷ bytes " default)\n" ∷ [])
+
 -- the line of an answer, with its newline
 unfoldable pub answerText : answer.Answer → List ℕ
 answerText Ok = bytes "(ok)\n"
 answerText (Made n) = lineText (bytes "(made") (n .0 ∷ [])
+answerText (MadeByDefault n) = byDefaultLine (n .0)
 answerText (MadeTwo n m) = lineText (bytes "(made") (n .0 ∷ m .0 ∷ [])
 answerText (Lost l) = lineText (bytes "(lost") (lossNumber l ∷ [])
 answerText Denied = bytes "(denied)\n"

@@ -4,7 +4,7 @@ use mathlib.Core.Bool.{Bool, true, false, cond, _&&_}
 use mathlib.Core.List.{List, [], _∷_}
 use mathlib.Core.Option.{Option, none, some}
 use lib.ListN.{set, replicate}
-use Rattle.calculus.specs.Number.{within, isNode, isSession, isItem, isTag, senderOf}
+use Rattle.calculus.specs.Number.{within, isNode, isDestination, isSession, isItem, isTag, senderOf}
 use Rattle.calculus.specs.Table.{entriesFrom, onlyIf}
 use Rattle.calculus.specs.declared.answer.Refusal.the-variants.{Unreadable, Range}
 use Rattle.calculus.specs.declared.network.Kind.{Kind}
@@ -51,7 +51,7 @@ reading (node a k has needs) =
     cond (isNode a && (rising 0 has && rising 0 needs))
     (record { parsed = Asks (Node a k); has = holding noCredentials has; needs = holding noCredentials needs })
     (plain (Refused Range))
-reading (route a b n) = plain (inRange (isNode a && (isNode b && isNode n)) (Route a b n))
+reading (route a b n) = plain (inRange (isNode a && (isDestination b && isNode n)) (Route a b n))
 reading («open» u c d) = plain (inRange (isSession u && (isNode c && isNode d)) (Open (record { 0 = u }) c d))
 reading (step u k) = plain (inRange (isSession u && isItem k) (Step (record { 0 = u }) (record { 0 = k })))
 reading (send u w t) = plain (inRange (isSession u && (within 0 1 w && isTag t)) (Send (record { 0 = u }) (senderOf w) t))

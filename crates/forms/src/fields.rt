@@ -7,6 +7,7 @@ use crate::reading::refused;
 use calculus::answer::Refusal;
 use calculus::number::ItemNumber;
 use calculus::number::SessionNumber;
+use calculus::number::is_destination;
 use calculus::number::is_item;
 use calculus::number::is_node;
 use calculus::number::is_session;
@@ -63,7 +64,7 @@ pub fn route_at(s: &[u8]) -> Reading
         let at = f.values[0];
         let destination = f.values[1];
         let next = f.values[2];
-        if all(is_node(at), is_node(destination), is_node(next)) {
+        if all(is_node(at), is_destination(destination), is_node(next)) {
             return asks(Request::Route {
                 at: at as u8,
                 destination: destination as u8,

@@ -5,19 +5,24 @@ use calculus::effect::Begins;
 use calculus::effect::Effect;
 use calculus::effect::Outcome;
 use calculus::effect::Wait;
+use calculus::network::Network;
 use calculus::network::NextHop;
 use calculus::packet::Item;
 use calculus::packet::Packet;
 use calculus::packet::Payload;
 use calculus::session::Session;
 use effects::effect::lost;
+use effects::effect::only;
 use effects::effect::writes;
 use items::packet::is_bare;
 use items::packet::is_data_or_done;
 use items::packet::target;
+use lookups::network::is_gateway;
+use lookups::network::next_hop;
 ghost use mathlib.Core.Path.{_≡_};
 ghost use Prim.Native.Nat.{_-_};
 ghost use lib.Dec.{eqb};
+ghost use Rattle.model.specs.Network.{isGateway, nextHop};
 ghost use Rattle.model.specs.Packet as packet;
 ghost use Rattle.model.specs.Rules as spec;
 
@@ -88,12 +93,25 @@ fn onward(next: NextHop, p: Packet, hops: u8) -> Effect
     ensures { λ r. ⌜ r ≡ spec.onward next p hops ⌝ }
 {
     match next {
-        NextHop::Missing => lost(Loss::NoRoute),
-        NextHop::Found(node) => {
+        NextHop::Exact(node) => {
             let left = before(hops);
             writes(Item::Wire(node, p, left))
         }
+        NextHop::Default(node) => {
+            let left = before(hops);
+            only(Outcome::WroteByDefault(Item::Wire(node, p, left)))
+        }
+        NextHop::Missing => lost(Loss::NoRoute),
     }
+}
+
+// Onward by the route from `a` to the packet's target.
+fn routed(n: Network, a: u8, p: Packet, hops: u8) -> Effect
+    ensures { λ r. ⌜ r ≡ spec.onward (nextHop n a (packet.target p)) p hops ⌝ }
+{
+    let to = target(p);
+    let next = next_hop(n, a, to);
+    onward(next, p, hops)
 }
 
 // Whether the packet has come to where it goes.
@@ -104,9 +122,9 @@ fn arrived(a: u8, p: Packet) -> bool
     a == t
 }
 
-// wire(a, packet, h), where `gateway` tells whether a is one and `next` is the route from a to the packet's target.
-pub fn wire(gateway: bool, next: NextHop, s: Session, a: u8, p: Packet, h: u8) -> Effect
-    ensures { λ r. ⌜ r ≡ spec.wireRule gateway next s a p h ⌝ }
+// The first case that fits, where `gateway` tells whether `a` is one.
+fn first_fit(gateway: bool, n: Network, s: Session, a: u8, p: Packet, h: u8) -> Effect
+    ensures { λ r. ⌜ r ≡ spec.wireRule gateway (nextHop n a) s a p h ⌝ }
 {
     let payload = p.payload;
     if discovers(gateway, s.server, a, payload) {
@@ -125,5 +143,13 @@ pub fn wire(gateway: bool, next: NextHop, s: Session, a: u8, p: Packet, h: u8) -
     if h == 0 {
         return lost(Loss::HopLimit);
     }
-    onward(next, p, h)
+    routed(n, a, p, h)
+}
+
+// wire(a, packet, h).
+pub fn wire(n: Network, s: Session, a: u8, p: Packet, h: u8) -> Effect
+    ensures { λ r. ⌜ r ≡ spec.wireRule (isGateway n a) (nextHop n a) s a p h ⌝ }
+{
+    let gateway = is_gateway(n, a);
+    first_fit(gateway, n, s, a, p, h)
 }

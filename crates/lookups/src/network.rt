@@ -6,6 +6,7 @@ use calculus::network::Node;
 use calculus::number::is_node;
 ghost use mathlib.Core.Path.{_≡_};
 ghost use mathlib.Core.Bool.{not, _||_};
+ghost use Prim.Native.Nat.{_-_};
 ghost use Rattle.model.specs.Network as spec;
 
 // What stands where no node is given.
@@ -57,14 +58,46 @@ pub fn is_gateway(n: Network, a: u8) -> bool
     is_gate(kind)
 }
 
-// A stored next node: 0 where there is no route.
-fn hop(next: u8) -> NextHop
-    ensures { λ r. ⌜ r ≡ spec.hop next ⌝ }
+// The place of a node; 0 has that of node 1.
+pub fn node_place(a: u8) -> usize
+    ensures { λ r. ⌜ r ≡ a - 1 ⌝ }
 {
-    if next == 0 {
-        return NextHop::Missing;
+    if a == 0 {
+        return 0;
     }
-    NextHop::Found(next)
+    a as usize - 1
+}
+
+// The place of the route from `a` for destination `b`.
+pub fn route_place(a: u8, b: u8) -> usize
+    ensures { λ r. ⌜ r ≡ spec.routePlace a b ⌝ }
+{
+    33 * node_place(a) + b as usize
+}
+
+// The next node that was given from `a` for destination `b`, or 0; past the end of the table there is none.
+pub fn route_to(n: Network, a: u8, b: u8) -> u8
+    ensures { λ r. ⌜ r ≡ spec.routeTo n a b ⌝ }
+{
+    let at = route_place(a, b);
+    let routes = n.routes;
+    if at < 1056 {
+        return routes[at];
+    }
+    0
+}
+
+// The exact route before the default; the next node of either is 0 where there is none.
+fn hop(exact: u8, default: u8) -> NextHop
+    ensures { λ r. ⌜ r ≡ spec.hop exact default ⌝ }
+{
+    if 0 < exact {
+        return NextHop::Exact(exact);
+    }
+    if 0 < default {
+        return NextHop::Default(default);
+    }
+    NextHop::Missing
 }
 
 // The next hop from `a` for `b`; none where `a` or `b` is no node.
@@ -73,10 +106,9 @@ pub fn next_hop(n: Network, a: u8, b: u8) -> NextHop
 {
     if is_node(a as u64) {
         if is_node(b as u64) {
-            let at = 32 * (a as usize - 1) + (b as usize - 1);
-            let routes = n.routes;
-            let next = routes[at];
-            return hop(next);
+            let exact = route_to(n, a, b);
+            let default = route_to(n, a, 0);
+            return hop(exact, default);
         }
     }
     NextHop::Missing

@@ -6,7 +6,7 @@ use mathlib.Core.Option.{Option, none, some}
 use Prim.Native.Nat.{ℕ}
 use lib.Dec.{eqb}
 use lib.ListN.{length, set, length-set}
-use Rattle.calculus.specs.Number.{isNode, within, isSession, isItem, isTag, senderOf}
+use Rattle.calculus.specs.Number.{isNode, isDestination, within, isSession, isItem, isTag, senderOf}
 use Rattle.calculus.proofs.Tests.{both, never, either}
 use Rattle.calculus.specs.declared.answer.Refusal.{Refusal}
 use Rattle.calculus.specs.declared.answer.Refusal.the-variants.{Unreadable, Range}
@@ -119,7 +119,7 @@ meaning-form (node a k has needs) =
     (λ e. givesNode a k _ _ (holding-length has noCredentials) (holding-length needs noCredentials) refl)
     (λ e. refuses Range refl)
 meaning-form (route a b n) =
-    ranged (isNode a && (isNode b && isNode n)) _ (λ e. givesRoute a b n refl)
+    ranged (isNode a && (isDestination b && isNode n)) _ (λ e. givesRoute a b n refl)
 meaning-form («open» u c d) =
     ranged (isSession u && (isNode c && isNode d)) _ (λ e. ofSession (Open (record { 0 = u }) c d) (both (isSession u) _ e .0) (λ v. refl))
 meaning-form (step u k) =

@@ -13,7 +13,7 @@ use Rattle.calculus.specs.declared.effect.Wait.{Wait}
 use Rattle.calculus.specs.declared.effect.Effect.{Effect}
 use Rattle.calculus.specs.declared.network.Network.{Network}
 use Rattle.calculus.specs.declared.network.NextHop.{NextHop}
-use Rattle.calculus.specs.declared.network.NextHop.the-variants.{Found, Missing}
+use Rattle.calculus.specs.declared.network.NextHop.the-variants.{Exact, Default, Missing}
 use Rattle.calculus.specs.declared.packet.Payload.{Payload}
 use Rattle.calculus.specs.declared.packet.Payload.the-variants.{Req, Rep, Disc, Done, Data}
 use Rattle.calculus.specs.declared.packet.Header.{Header}
@@ -57,12 +57,13 @@ pub record Law (s : Session) (i : Item) (f : Effect) : Type 0 where
 
 onward-law : (next : NextHop) (s : Session) (a : ℕ) (p : Packet) (h : ℕ) → Law s (Wire a p h) (onward next p h)
 unfolding uses space carries active due
+onward-law (Exact next) s a p h = omega arith
+onward-law (Default next) s a p h = omega arith
 onward-law Missing s a p h = omega arith
-onward-law (Found next) s a p h = omega arith
 
-wire-law : (gateway : Bool) (next : NextHop) (s : Session) (a : ℕ) (p : Packet) (h : ℕ) → Law s (Wire a p h) (wireRule gateway next s a p h)
+wire-law : (gateway : Bool) (look : ℕ → NextHop) (s : Session) (a : ℕ) (p : Packet) (h : ℕ) → Law s (Wire a p h) (wireRule gateway look s a p h)
 unfolding uses space carries active due wireRule
-wire-law gateway next s a p h =
+wire-law gateway look s a p h =
     let P = Law s (Wire a p h) in
     either P (discovers gateway (s .server) a (p .payload))
     (λ k. either P (isExhausted s) (λ e. omega arith)
@@ -71,7 +72,7 @@ wire-law gateway next s a p h =
     omega (arith, ap packetSpace x, ap (λ (y : Payload). one (not (isData y) && true)) x, not-exhausted s e)))
     (λ e. either P (eqb a (target p)) (λ e. omega arith)
     (λ e. either P (unprotected gateway p) (λ e. omega arith)
-    (λ e. either P (eqb h 0) (λ e. omega arith) (λ e. onward-law next s a p h))))
+    (λ e. either P (eqb h 0) (λ e. omega arith) (λ e. onward-law (look (target p)) s a p h))))
 
 up-law : (x : Header) (inStands : Bool) (s : Session) (rows : List Row) (a : ℕ) (p : Packet) → Law s (Up a p) (upWith x inStands rows a p)
 unfolding uses space carries active due
@@ -114,7 +115,7 @@ ack-law s a e =
 pub rule-law : (n : Network) (standing : ℕ → ℕ → Bool) (t : Part) (i : Item) → Law (t .session) i (rule n standing t i)
 unfolding uses space carries active due rule outRule upRule estRule
 rule-law n standing t Free = omega arith
-rule-law n standing t (Wire a p h) = wire-law (isGateway n a) (nextHop n a (target p)) (t .session) a p h
+rule-law n standing t (Wire a p h) = wire-law (isGateway n a) (nextHop n a) (t .session) a p h
 rule-law n standing t (Out a p) = omega arith
 rule-law n standing t (Up a p) = up-law (p .header) (headerStands standing a (p .header)) (t .session) (held t) a p
 rule-law n standing t (In a p q) = in-law (t .session) (held t) a p q

@@ -8,7 +8,7 @@ use native.Mathlib.Omega.{arith}
 use lib.Dec.{ltb}
 use borrow.Author.Tests.{eqb-false, leb-false, not-false}
 use Rattle.calculus.proofs.Tests.{Way, is, isnt, way, never, neither, not-so, either}
-use Rattle.calculus.specs.Number.{within, isNode, isSession, isItem, isTag}
+use Rattle.calculus.specs.Number.{within, isNode, isDestination, isSession, isItem, isTag}
 use Rattle.calculus.specs.declared.network.Network.{Network}
 use Rattle.calculus.specs.declared.packet.Payload.the-variants.{Disc}
 use Rattle.calculus.specs.declared.packet.Item.the-variants.{Wire}
@@ -115,7 +115,7 @@ module _ (network : Network) (t : Part) (h : Sane t) (n : ℕ) (k : Tracked netw
   counts-line : (o : Option Form) → Counts network n (formCount (t .items) n o) (seenParsed network t (asked o .parsed))
   counts-line (some (node a x has needs)) =
       either (λ (r : Reading). Counts network n n (seenParsed network t (r .parsed))) (isNode a && (rising 0 has && rising 0 needs)) (λ e. k) (λ e. k)
-  counts-line (some (route a b next)) = ranged-seen (Counts network n n) network t k (isNode a && (isNode b && isNode next)) _ k
+  counts-line (some (route a b next)) = ranged-seen (Counts network n n) network t k (isNode a && (isDestination b && isNode next)) _ k
   counts-line (some («open» u c d)) = ranged-seen (Counts network n 0) network t k (isSession u && (isNode c && isNode d)) _ (counts-open c d)
   counts-line (some (step u i)) = ranged-seen (Counts network n _) network t k (isSession u && isItem i) _ (counts-step i)
   counts-line (some (send u w tag)) = ranged-seen (Counts network n n) network t k (isSession u && (within 0 1 w && isTag tag)) _ (counts-send _ tag)

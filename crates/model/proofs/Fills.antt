@@ -5,7 +5,7 @@ use mathlib.Core.List.{List, [], _∷_, _++_}
 use Prim.Native.Nat.{ℕ, _+_, _-_, _/_, _%_, _<_}
 use native.Mathlib.Omega.{arith}
 use lib.Dec.{ltb}
-use borrow.Author.Tests.{ltb-true, ltb-false}
+use borrow.Author.Tests.{ltb-false}
 use lib.ListN.{length, getD, set, replicate, length-append}
 use lib.Seq.{set-at, getD-at}
 use Rattle.calculus.specs.Number.{isNode}
@@ -16,13 +16,13 @@ use Rattle.calculus.specs.declared.network.Node as declared
 use Rattle.calculus.specs.declared.state.State.{State}
 use Rattle.forms.specs.Request.{nodeOf}
 use Rattle.model.specs.Lists.{All}
-use Rattle.model.specs.Network.{noNode, nodeAt, given, routePlace, nextHop}
+use Rattle.model.specs.Network.{noNode, nodeAt, given, routePlace, routeTo, isRouted}
 use Rattle.model.specs.NetworkText.{nodeForm, routeForm, networkForms}
 use Rattle.model.specs.State.{fresh}
-use Rattle.model.specs.Requests.{isFound}
+use Rattle.model.specs.Requests.{nodesGiven, leadsBack}
 use Rattle.model.specs.GivenBack.{IsPlace, Consistent, freshWith}
 use Rattle.model.proofs.Lists.{all-at}
-use Rattle.model.proofs.Nodes.{Node, Hop, hop-found}
+use Rattle.model.proofs.Nodes.{Node, Destination}
 use Rattle.model.proofs.Gives.{ok, node-ok, route-ok, Gives, none-left, one-more, gives-append, table-gives}
 
 -- ---- the nodes
@@ -34,7 +34,7 @@ empty-free n a e = either (λ (x : declared.Node). x .given ≡ false) (isNode a
 module _ (n : Network) (h : Consistent n) where
   -- while the nodes are given there are no routes
   abbrev withNodes : List declared.Node → State
-  withNodes l = freshWith (record { nodes = l; routes = replicate 1024 0 })
+  withNodes l = freshWith (record { nodes = l; routes = replicate 1056 0 })
 
   node-fills : (p : List declared.Node) (x : declared.Node) (r l : List declared.Node) → n .nodes ≡ p ++ x ∷ l
       → Gives (withNodes (p ++ noNode ∷ r)) (nodeForm (1 + length p) x) (withNodes (p ++ x ∷ r))
@@ -51,7 +51,7 @@ module _ (n : Network) (h : Consistent n) where
       go true e =
           let few : length p < 32 = omega (arith, h .nodes, ap length w, length-append p (x ∷ l)) in
           let i : Node a = bounds-within 1 32 a (omega arith) (omega arith) in
-          let m : Network = record { nodes = p ++ noNode ∷ r; routes = replicate 1024 0 } in
+          let m : Network = record { nodes = p ++ noNode ∷ r; routes = replicate 1056 0 } in
           let free = empty-free m a (getD-at p noNode r noNode (a - 1) (omega arith)) in
           let y : declared.Node = record { given = true; kind = x .kind; has = x .has; needs = x .needs } in
           let same : y ≡ x = ap (λ (b : Bool). record { given = b; kind = x .kind; has = x .has; needs = x .needs }) (sym e) in
@@ -68,21 +68,24 @@ module _ (n : Network) (h : Consistent n) where
   abbrev withRoutes : List ℕ → State
   withRoutes l = freshWith (record { nodes = n .nodes; routes = l })
 
-  -- the two nodes of a place
-  at-node : (p : ℕ) → p < 1024 → Node (p / 32 + 1)
-  at-node p h = bounds-within 1 32 (p / 32 + 1) (omega arith) (omega arith)
+  -- the two ends of the route at a place
+  at-node : (p : ℕ) → p < 1056 → Node (p / 33 + 1)
+  at-node p h = bounds-within 1 32 (p / 33 + 1) (omega arith) (omega arith)
 
-  for-node : (p : ℕ) → Node (p % 32 + 1)
-  for-node p = bounds-within 1 32 (p % 32 + 1) (omega arith) (omega arith)
+  for-destination : (p : ℕ) → Destination (p % 33)
+  for-destination p = bounds-within 0 32 (p % 33) (omega arith) (omega arith)
 
-  pub place-hop : (p next : ℕ) → p < 1024 → getD (n .routes) p 0 ≡ next → 0 < next → Hop n (p / 32 + 1) (p % 32 + 1) next
-  place-hop p next w e some =
-      let same : routePlace (p / 32 + 1) (p % 32 + 1) ≡ p = omega arith in
-      record { at = at-node p w; for = for-node p; stored = rw same e; some = λ z. omega arith }
+  -- the route at a place is one that is accepted
+  pub place-routed : (p next : ℕ) → p < 1056 → getD (n .routes) p 0 ≡ next → ltb 0 next ≡ true
+      → (nodesGiven n (p / 33 + 1) (p % 33) next ≡ true) × (leadsBack (p / 33 + 1) (p % 33) next ≡ false)
+  place-routed p next w e some =
+      let same : routePlace (p / 33 + 1) (p % 33) ≡ p = omega arith in
+      let stored : routeTo n (p / 33 + 1) (p % 33) ≡ next = rw same e in
+      rw stored at (h .routed (p / 33 + 1) (p % 33) (at-node p w) (for-destination p) (rw stored some))
 
   route-fills : (p : List ℕ) (next : ℕ) (r l : List ℕ) → n .routes ≡ p ++ next ∷ l
       → Gives (withRoutes (p ++ 0 ∷ r)) (routeForm (0 + length p) next) (withRoutes (p ++ next ∷ r))
-  unfolding nextHop nodeAt
+  unfolding nodeAt
   route-fills p next r l w = go (way (ltb 0 next))
     where
       go : Way (ltb 0 next) → Gives (withRoutes (p ++ 0 ∷ r)) (routeForm (0 + length p) next) (withRoutes (p ++ next ∷ r))
@@ -91,14 +94,14 @@ module _ (n : Network) (h : Consistent n) where
           rw (e, z) none-left
       go (is e) =
           let k = 0 + length p in
-          let a = k / 32 + 1 in
-          let b = k % 32 + 1 in
-          let few : k < 1024 = omega (arith, h .routes, ap length w, length-append p (next ∷ l)) in
+          let a = k / 33 + 1 in
+          let b = k % 33 in
+          let few : k < 1056 = omega (arith, h .routes, ap length w, length-append p (next ∷ l)) in
           let stored : getD (n .routes) k 0 ≡ next = rw w (getD-at p next l 0 k (omega arith)) in
-          let r₁ = h .routed a b next (hop-found n a b next (place-hop k next few stored (ltb-true 0 next e))) in
+          let r₁ = place-routed k next few stored e in
           let m : Network = record { nodes = n .nodes; routes = p ++ 0 ∷ r } in
           let place : routePlace a b ≡ k = omega arith in
-          let free : isFound (nextHop m a b) ≡ false = rw (at-node k few, for-node k, place, getD-at p 0 r 0 k (omega arith)) in
+          let free : isRouted m a b ≡ false = rw (place, getD-at p 0 r 0 k (omega arith)) in
           rw e
           (one-more
           (route-ok m a b next (r₁ .0) (r₁ .1) free

@@ -5,7 +5,7 @@ use mathlib.Core.List.{List, map, map-map}
 use Prim.Native.Nat.{ℕ, _+_, _/_, _%_, _≤_, _<_}
 use native.Mathlib.Omega.{arith}
 use lib.Dec.{ltb}
-use borrow.Author.Tests.{ltb-true, ltb-false}
+use borrow.Author.Tests.{ltb-false}
 use lib.ListN.{length, getD, length-append}
 use Rattle.calculus.specs.Table.{entriesFrom}
 use Rattle.calculus.proofs.Tests.{Way, is, isnt, way, within-bounds}
@@ -27,11 +27,11 @@ use Rattle.model.specs.Texts.{afterLines}
 use Rattle.model.specs.GivenBack.{IsPlace, Consistent, freshWith, AnsweredOk, GivenBack}
 use Rattle.model.proofs.Lists.{all-of-getD}
 use Rattle.model.proofs.Tables.{only-width, entries-width}
-use Rattle.model.proofs.Nodes.{given-node, nodes-given, hop-found}
+use Rattle.model.proofs.Nodes.{given-node, nodes-given}
 use Rattle.model.proofs.Reached.{reached}
 use Rattle.model.proofs.Ordered.{text-ordered}
 use Rattle.model.proofs.Gives.{lineOf, gives-after, gives-ok}
-use Rattle.model.proofs.Fills.{place-hop, text-gives}
+use Rattle.model.proofs.Fills.{place-routed, text-gives}
 
 module _ (n : Network) (h : Consistent n) where
   text-calls : map roomyCall (lines (networkText n)) ≡ map lineOf (networkForms n)
@@ -46,7 +46,7 @@ module _ (n : Network) (h : Consistent n) where
   -- ---- how long it is
 
   -- a stored next node is a node, or 0
-  next-most : (p : ℕ) → p < 1024 → getD (n .routes) p 0 ≤ 32
+  next-most : (p : ℕ) → p < 1056 → getD (n .routes) p 0 ≤ 32
   next-most p w = go (way (ltb 0 next))
     where
       next : ℕ
@@ -55,13 +55,11 @@ module _ (n : Network) (h : Consistent n) where
       go : Way (ltb 0 next) → next ≤ 32
       go (isnt e) = omega (arith, ltb-false 0 next e)
       go (is e) =
-          let a = p / 32 + 1 in
-          let b = p % 32 + 1 in
-          let r = h .routed a b next (hop-found n a b next (place-hop n h p next w refl (ltb-true 0 next e))) in
-          within-bounds 1 32 next (given-node n next (nodes-given n a b next (r .0) .by)) .1
+          let r = place-routed n h p next w refl e in
+          within-bounds 1 32 next (given-node n next (nodes-given n (p / 33 + 1) (p % 33) next (r .0) .by)) .1
 
   -- a node's line has at most 393 bytes, and a route's 17
-  text-width : length (networkText n) ≤ 29984
+  text-width : length (networkText n) ≤ 30528
   text-width =
       let fs = entriesFrom nodeForm 1 (n .nodes) in
       let gs = entriesFrom routeForm 0 (n .routes) in
@@ -80,11 +78,11 @@ module _ (n : Network) (h : Consistent n) where
         entries-width formLine 17 (λ next. next ≤ 32) routeForm 0 (n .routes)
             (all-of-getD (λ next. next ≤ 32) (n .routes) 0 (λ p w. next-most p (omega arith)))
             (λ p next i j g.
-            let a = width-most 1 (p / 32 + 1) (omega arith) in
-            let b = width-most 1 (p % 32 + 1) (omega arith) in
+            let a = width-most 1 (p / 33 + 1) (omega arith) in
+            let b = width-most 1 (p % 33) (omega arith) in
             let c = width-most 1 next (omega arith) in
             only-width formLine 17 (ltb 0 next) _
-            (λ e. simp length-append (omega (arith, route-width (p / 32 + 1) (p % 32 + 1) next)))),
+            (λ e. simp length-append (omega (arith, route-width (p / 33 + 1) (p % 33) next)))),
       ))
 
 -- ---- the promise

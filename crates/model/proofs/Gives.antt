@@ -18,11 +18,11 @@ use Rattle.forms.specs.Text.{Form, route, text}
 use Rattle.forms.proofs.Credentials.{credentials-rising, credentials-same}
 use Rattle.forms.proofs.ReadAgain.{node-read, route-read}
 use Rattle.model.specs.Lists.{All}
-use Rattle.model.specs.Network.{given, nextHop}
-use Rattle.model.specs.Requests.{checked, withNode, withRoute, nodeTurn, routeTurn, nodesGiven, leadsBack, isFound}
+use Rattle.model.specs.Network.{given, isRouted}
+use Rattle.model.specs.Requests.{checked, withNode, withRoute, nodeTurn, routeTurn, nodesGiven, leadsBack}
 use Rattle.model.specs.Calls.{answer, Reply, Call, call, answered, requested, after, replies, roomyCall}
 use Rattle.model.specs.GivenBack.{IsPlace, freshWith, AnsweredOk}
-use Rattle.model.proofs.Nodes.{Node, given-node, nodes-given}
+use Rattle.model.proofs.Nodes.{Node, given-node, nodes-given, given-destination}
 
 -- ---- one line
 
@@ -47,16 +47,16 @@ node-ok n a x i g h =
       g,
     )
 
-pub route-ok : (n : Network) (a b next : ℕ) → nodesGiven n a b next ≡ true → leadsBack a b next ≡ false → isFound (nextHop n a b) ≡ false
+pub route-ok : (n : Network) (a b next : ℕ) → nodesGiven n a b next ≡ true → leadsBack a b next ≡ false → isRouted n a b ≡ false
     → call (freshWith n) (lineOf (route a b next)) ≡ ok (freshWith (withRoute n a b next))
 unfolding answered requested routeTurn checked
 route-ok n a b next g apart free =
     let r = nodes-given n a b next g in
     let i = given-node n a (r .at) in
-    let j = given-node n b (r .for) in
+    let j = given-destination n b (r .for) in
     let k = given-node n next (r .by) in
     rw (
-      route-read a b next (within-bounds 1 32 a i .1) (within-bounds 1 32 b j .1) (within-bounds 1 32 next k .1),
+      route-read a b next (within-bounds 1 32 a i .1) (within-bounds 0 32 b j .1) (within-bounds 1 32 next k .1),
       i,
       j,
       k,

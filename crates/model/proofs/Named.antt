@@ -2,18 +2,18 @@
 use mathlib.Core.Path.{_≡_, refl, sym, ap, _∙_}
 use mathlib.Core.Bool.{Bool, true, false, not, _&&_}
 use mathlib.Core.List.{List}
-use Prim.Native.Nat.{ℕ, _≤_}
+use Prim.Native.Nat.{ℕ, _-_, _≤_}
 use native.Mathlib.Omega.{arith}
 use lib.Dec.{eqb}
 use borrow.Author.Tests.{eqb-true, eqb-false}
 use Rattle.calculus.proofs.Tests.{both, never, either}
 use Rattle.calculus.specs.Number.{isNode}
 use Rattle.calculus.specs.declared.effect.Outcome.{Outcome}
-use Rattle.calculus.specs.declared.effect.Outcome.the-variants.{Wrote, WroteTwo, Lost, Denied, Opened, Delivered}
+use Rattle.calculus.specs.declared.effect.Outcome.the-variants.{Wrote, WroteByDefault, WroteTwo, Lost, Denied, Opened, Delivered}
 use Rattle.calculus.specs.declared.effect.Effect.{Effect}
 use Rattle.calculus.specs.declared.network.Network.{Network}
 use Rattle.calculus.specs.declared.network.NextHop.{NextHop}
-use Rattle.calculus.specs.declared.network.NextHop.the-variants.{Found, Missing}
+use Rattle.calculus.specs.declared.network.NextHop.the-variants.{Exact, Default, Missing}
 use Rattle.calculus.specs.declared.packet.Payload.{Payload}
 use Rattle.calculus.specs.declared.packet.Payload.the-variants.{Req, Rep, Disc, Done, Data}
 use Rattle.calculus.specs.declared.packet.Header.{Header}
@@ -33,14 +33,14 @@ use Rattle.model.specs.Packet.{bare, headedTo, target}
 use Rattle.model.specs.Row.{held, newest, admits, areNodes}
 use Rattle.model.specs.Rules.{discovers, lastPoint, isExhausted, unprotected, onward, wireRule, headerTo, outRule, headerStands, upWith, upRule, agrees, received, inRule, estRule, authRule, grantRule, ackRule, rule}
 use Rattle.model.specs.State.{addedRows}
-use Rattle.model.specs.SetUp.{isDisc}
+use Rattle.model.specs.SetUp.{isDisc, LeadsToGiven}
 use Rattle.model.specs.Lists.{All}
 use Rattle.model.specs.GivenBack.{Consistent}
 use Rattle.model.proofs.Lists.{all-map}
 use Rattle.model.proofs.Places.{are-nodes}
 use Rattle.model.proofs.Discovers.{discovers-disc, server-discovers}
 use Rattle.model.proofs.Match.{OfVia, of-match}
-use Rattle.model.proofs.Nodes.{Node, LeadsToNode, routed}
+use Rattle.model.proofs.Nodes.{Node, given-node, hop-given}
 
 -- ---- what an item may name, v being the server
 
@@ -86,6 +86,7 @@ RowNamed r = areNodes (r .node) (r .peer) ≡ true
 -- of each item written
 abbrev pub Written : (Item → Type 0) → Outcome → Type 0
 Written P (Wrote i) = P i
+Written P (WroteByDefault i) = P i
 Written P (WroteTwo i j) = P i × P j
 Written P (Lost k) = Unit
 Written P Denied = Unit
@@ -110,14 +111,20 @@ arrives v gateway a (Disc p) d h k o t =
 arrives v gateway a Done d h k o t = refl
 arrives v gateway a (Data tag) d h k o t = refl
 
-onward-named : (v : ℕ) (next : NextHop) (a : ℕ) (p : Packet) (h : ℕ) → LeadsToNode next → Named v (Wire a p h) → EffectNamed v (onward next p h)
-onward-named v Missing a p h k o = (tt, tt)
-onward-named v (Found next) a p h k o = ((k, o .1, o .2, omega (arith, o .3)), tt)
+moved-named : (v a next : ℕ) (p : Packet) (h : ℕ) → Node next → Named v (Wire a p h) → Named v (Wire next p (h - 1))
+moved-named v a next p h k o = (k, o .1, o .2, omega (arith, o .3))
 
-wire-named : (gateway : Bool) (next : NextHop) (s : Session) (a : ℕ) (p : Packet) (h : ℕ) → LeadsToNode next → Named (s .server) (Wire a p h)
-    → EffectNamed (s .server) (wireRule gateway next s a p h)
+onward-named : (n : Network) (v : ℕ) (next : NextHop) (a : ℕ) (p : Packet) (h : ℕ) → LeadsToGiven n next → Named v (Wire a p h)
+    → EffectNamed v (onward next p h)
+onward-named n v (Exact next) a p h k o = (moved-named v a next p h (given-node n next k) o, tt)
+onward-named n v (Default next) a p h k o = (moved-named v a next p h (given-node n next k) o, tt)
+onward-named n v Missing a p h k o = (tt, tt)
+
+wire-named : (n : Network) (s : Session) (a : ℕ) (p : Packet) (h : ℕ) → LeadsToGiven n (nextHop n a (target p)) → Named (s .server) (Wire a p h)
+    → EffectNamed (s .server) (wireRule (isGateway n a) (nextHop n a) s a p h)
 unfolding wireRule
-wire-named gateway next s a p h k o =
+wire-named n s a p h k o =
+    let gateway = isGateway n a in
     let v = s .server in
     let P = EffectNamed v in
     either P (discovers gateway v a (p .payload))
@@ -126,7 +133,7 @@ wire-named gateway next s a p h k o =
     (λ e. either P (eqb a (target p))
     (λ w. ((o .0, o .1, arrives v gateway a (p .payload) (p .destination) (p .header) e (o .2) (eqb-true a (target p) w)), tt))
     (λ e. either P (unprotected gateway p) (λ e. (tt, tt))
-    (λ e. either P (eqb h 0) (λ e. (tt, tt)) (λ e. onward-named v next a p h k o))))
+    (λ e. either P (eqb h 0) (λ e. (tt, tt)) (λ e. onward-named n v (nextHop n a (target p)) a p h k o))))
 
 -- the peer of the newest row that fits
 newest-named : (out : Bool) (a : ℕ) (p : Packet) (rows : List Row) → All RowNamed rows → ViaNamed (newest rows out a p)
@@ -194,7 +201,7 @@ module _ (n : Network) (hn : Consistent n) (standing : ℕ → ℕ → Bool) (t 
       → EffectNamed (t .session .server) (rule n standing t i)
   unfolding rule upRule estRule authRule
   rule-named h c d Free o = (tt, tt)
-  rule-named h c d (Wire a p x) o = wire-named (isGateway n a) (nextHop n a (target p)) (t .session) a p x (routed n hn a (target p)) o
+  rule-named h c d (Wire a p x) o = wire-named n (t .session) a p x (hop-given n hn a (target p)) o
   rule-named h c d (Out a p) o = out-named (t .session .server) (held t) a p h o
   rule-named h c d (Up a p) o = up-named (t .session .server) (p .header) (headerStands standing a (p .header)) (held t) a p (o .1 .header) o
   rule-named h c d (In a p q) o = in-named (t .session .server) (held t) a p q o

@@ -7,7 +7,7 @@ use native.Mathlib.Omega.{arith}
 use lib.Dec.{ltb}
 use Rattle.calculus.proofs.Tests.{either}
 use Rattle.calculus.specs.declared.effect.Outcome.{Outcome}
-use Rattle.calculus.specs.declared.effect.Outcome.the-variants.{Wrote, WroteTwo, Lost, Denied, Opened, Delivered}
+use Rattle.calculus.specs.declared.effect.Outcome.the-variants.{Wrote, WroteByDefault, WroteTwo, Lost, Denied, Opened, Delivered}
 use Rattle.calculus.specs.declared.effect.Effect.{Effect}
 use Rattle.calculus.specs.declared.network.Network.{Network}
 use Rattle.calculus.specs.declared.request.Request as request
@@ -54,6 +54,7 @@ issued-none t = record { many = 0; last = omega arith; carried = refl }
 answer-numbers : (n : ℕ) (o : Outcome) → numbersIn (answerOf n o) ≡ upFrom n (writtenCount o)
 unfolding upFrom
 answer-numbers n (Wrote i) = refl
+answer-numbers n (WroteByDefault i) = refl
 answer-numbers n (WroteTwo i j) = let e : n + 2 ≡ n + 1 + 1 = omega arith in rw e
 answer-numbers n (Lost k) = refl
 answer-numbers n Denied = refl

@@ -19,12 +19,12 @@ abbrev nodeAt : ℕ → Node → Form
 nodeAt a x = nodeOf a (x .kind) (x .has) (x .needs)
 
 abbrev routeAt : ℕ → ℕ → Form
-routeAt p next = route (p / 32 + 1) (p % 32 + 1) next
+routeAt p next = route (p / 33 + 1) (p % 33) next
 
 routes-rise : (i j x y : ℕ) → i < j → Before formKey (routeAt i x) (routeAt j y)
 routes-rise i j x y h =
-    before-cons (i / 32 + 1) (j / 32 + 1) ((i % 32 + 1) ∷ []) ((j % 32 + 1) ∷ []) (omega arith)
-    (λ e. before-cons (i % 32 + 1) (j % 32 + 1) [] [] (omega arith) (λ f. absurd (omega arith)))
+    before-cons (i / 33 + 1) (j / 33 + 1) (i % 33 ∷ []) (j % 33 ∷ []) (omega arith)
+    (λ e. before-cons (i % 33) (j % 33) [] [] (omega arith) (λ f. absurd (omega arith)))
 
 -- any node's form comes before all routes' forms
 node-first : (a : ℕ) (x : Node) (l : List ℕ) → All (Before formKey (nodeAt a x)) (entriesFrom routeForm 0 l)

@@ -12,7 +12,7 @@ use borrow.Author.Tests.{le-leb, lt-leb, eq-eqb, ne-eqb}
 use Rattle.calculus.specs.Number.{within}
 use Rattle.calculus.proofs.Tests.{within-bounds, either}
 use Rattle.calculus.specs.declared.effect.Outcome.{Outcome}
-use Rattle.calculus.specs.declared.effect.Outcome.the-variants.{Wrote, WroteTwo, Lost, Denied, Opened, Delivered}
+use Rattle.calculus.specs.declared.effect.Outcome.the-variants.{Wrote, WroteByDefault, WroteTwo, Lost, Denied, Opened, Delivered}
 use Rattle.calculus.specs.declared.effect.Wait.{Wait}
 use Rattle.calculus.specs.declared.effect.Effect.{Effect}
 use Rattle.calculus.specs.declared.packet.Item.{Item}
@@ -78,6 +78,7 @@ module _ (k : ℕ) where
 
   written-once : (l : List Slot) (n : ℕ) (o : Outcome) → times l ≤ one (within 1 n k) → times (written l n o) ≤ one (within 1 (n + writtenCount o) k)
   written-once l n (Wrote i) h = omega (arith, put-once l (n + 1) i, next-once n)
+  written-once l n (WroteByDefault i) h = omega (arith, put-once l (n + 1) i, next-once n)
   written-once l n (WroteTwo i j) h =
       let e : n + 1 + 1 ≡ n + 2 = omega arith in
       let second = rw e at (next-once (n + 1)) in

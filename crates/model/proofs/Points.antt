@@ -10,7 +10,7 @@ use borrow.Author.Tests.{eqb-true, eq-eqb, ne-eqb}
 use Rattle.calculus.proofs.Tests.{never}
 use Rattle.calculus.specs.declared.network.Network.{Network}
 use Rattle.calculus.specs.declared.network.NextHop.{NextHop}
-use Rattle.calculus.specs.declared.network.NextHop.the-variants.{Found, Missing}
+use Rattle.calculus.specs.declared.network.NextHop.the-variants.{Exact, Default, Missing}
 use Rattle.calculus.specs.declared.packet.Payload.the-variants.{Disc, Done}
 use Rattle.calculus.specs.declared.packet.Packet.{Packet}
 use Rattle.calculus.specs.declared.packet.Via.the-variants.{Untunnelled, Peer}
@@ -25,14 +25,16 @@ use Rattle.model.proofs.Match.{of-newest, none-newest}
 
 -- ---- the points
 
-abbrev atNext : NextHop → (ℕ → ℕ) → ℕ
-atNext Missing f = 0
-atNext (Found next) f = f next
+-- the next node, or 0, from where no node is met
+abbrev pub nextNode : NextHop → ℕ
+nextNode (Exact next) = next
+nextNode (Default next) = next
+nextNode Missing = 0
 
 -- the node that discovers a Disc(p) for d with h hops left at a, or 0
 unfoldable pub walk : Network → ℕ → ℕ → ℕ → ℕ → ℕ
 walk net d p zero a = cond (discovers (isGateway net a) d a (Disc p)) a 0
-walk net d p (suc h) a = cond (discovers (isGateway net a) d a (Disc p)) a (atNext (nextHop net a d) (λ x. walk net d p h x))
+walk net d p (suc h) a = cond (discovers (isGateway net a) d a (Disc p)) a (walk net d p h (nextNode (nextHop net a d)))
 
 -- the i-th tunnel point between c and d: c, and then what each one's Disc comes to
 unfoldable pub points : Network → ℕ → ℕ → ℕ → ℕ
@@ -45,11 +47,11 @@ module _ (net : Network) (d p : ℕ) where
   walk-found zero a e = rw e
   walk-found (suc h) a e = rw e
 
-  pub walk-on : (h a next : ℕ) → (h ≡ 0 → ⊥) → discovers (isGateway net a) d a (Disc p) ≡ false → nextHop net a d ≡ Found next
-      → walk net d p (h - 1) next ≡ walk net d p h a
+  pub walk-on : (h a : ℕ) → (h ≡ 0 → ⊥) → discovers (isGateway net a) d a (Disc p) ≡ false
+      → walk net d p (h - 1) (nextNode (nextHop net a d)) ≡ walk net d p h a
   unfolding walk
-  walk-on zero a next n e w = absurd (n refl)
-  walk-on (suc h) a next n e w = let k : suc h - 1 ≡ h = omega arith in rw (e, w, k)
+  walk-on zero a n e = absurd (n refl)
+  walk-on (suc h) a n e = let k : suc h - 1 ≡ h = omega arith in rw (e, k)
 
 module _ (net : Network) (c d : ℕ) where
   abbrev point : ℕ → ℕ

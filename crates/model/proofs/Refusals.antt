@@ -48,6 +48,7 @@ Answers (moved a t c) = refusalIn a ≡ none
 
 pub outcome-answers : (n : ℕ) (o : Outcome) → refusalIn (answerOf n o) ≡ none
 outcome-answers n (outcome.Wrote i) = refl
+outcome-answers n (outcome.WroteByDefault i) = refl
 outcome-answers n (outcome.WroteTwo i j) = refl
 outcome-answers n (outcome.Lost k) = refl
 outcome-answers n outcome.Denied = refl

@@ -9,7 +9,7 @@ use lib.ListN.{set}
 use borrow.Author.Tests.{ltb-false, leb-false, eqb-false, not-false}
 use Rattle.calculus.proofs.Tests.{both, never}
 use Rattle.calculus.specs.declared.effect.Outcome.{Outcome}
-use Rattle.calculus.specs.declared.effect.Outcome.the-variants.{Wrote, WroteTwo, Lost, Denied, Opened, Delivered}
+use Rattle.calculus.specs.declared.effect.Outcome.the-variants.{Wrote, WroteByDefault, WroteTwo, Lost, Denied, Opened, Delivered}
 use Rattle.calculus.specs.declared.effect.Effect.{Effect}
 use Rattle.calculus.specs.declared.network.Network.{Network}
 use Rattle.calculus.specs.declared.packet.Payload.the-variants.{Disc, Data}
@@ -54,6 +54,7 @@ module _ (P : Item → Type 0) where
 
   all-written : (l : List Slot) (n : ℕ) (o : Outcome) → All (At P) l → Written P o → All (At P) (written l n o)
   all-written l n (Wrote i) h k = all-put l (n + 1) i h k
+  all-written l n (WroteByDefault i) h k = all-put l (n + 1) i h k
   all-written l n (WroteTwo i j) h k = all-put (putItem l (n + 1) i) (n + 2) j (all-put l (n + 1) i h (k .0)) (k .1)
   all-written l n (Lost e) h k = h
   all-written l n Denied h k = h
@@ -121,6 +122,7 @@ still-used g g′ u e h =
 -- a step writes two items at most
 written-few : (o : Outcome) → writtenCount o ≤ 2
 written-few (Wrote i) = omega arith
+written-few (WroteByDefault i) = omega arith
 written-few (WroteTwo i j) = omega arith
 written-few (Lost k) = omega arith
 written-few Denied = omega arith

@@ -7,7 +7,7 @@ use native.Mathlib.Omega.{arith}
 use lib.Seq.{take-all}
 use Rattle.calculus.proofs.Tests.{either}
 use Rattle.calculus.specs.declared.effect.Outcome.{Outcome}
-use Rattle.calculus.specs.declared.effect.Outcome.the-variants.{Wrote, WroteTwo, Lost, Denied, Opened, Delivered}
+use Rattle.calculus.specs.declared.effect.Outcome.the-variants.{Wrote, WroteByDefault, WroteTwo, Lost, Denied, Opened, Delivered}
 use Rattle.calculus.specs.declared.effect.Wait.{Wait}
 use Rattle.calculus.specs.declared.effect.Wait.the-variants.{NoWait, Discovery, Establishment}
 use Rattle.calculus.specs.declared.network.Network.{Network}
@@ -63,6 +63,7 @@ few-users s g out a q = either (λ (n : ℕ). n ≤ 256) (areNodes a q) (λ e. r
 
 weigh-items : (g : Item → Bool) (o : Outcome) → weighOut (count g) o ≡ tally g (itemsOf o)
 weigh-items g (Wrote i) = omega arith
+weigh-items g (WroteByDefault i) = omega arith
 weigh-items g (WroteTwo i j) = omega arith
 weigh-items g (Lost k) = refl
 weigh-items g Denied = refl

@@ -9,7 +9,7 @@ use Rattle.calculus.proofs.Tests.{never, either}
 use Rattle.calculus.specs.declared.effect.Added.{Added}
 use Rattle.calculus.specs.declared.effect.Added.the-variants.{NoRows, Two}
 use Rattle.calculus.specs.declared.effect.Outcome.{Outcome}
-use Rattle.calculus.specs.declared.effect.Outcome.the-variants.{Wrote, WroteTwo, Lost, Denied, Opened, Delivered}
+use Rattle.calculus.specs.declared.effect.Outcome.the-variants.{Wrote, WroteByDefault, WroteTwo, Lost, Denied, Opened, Delivered}
 use Rattle.calculus.specs.declared.effect.Effect.{Effect}
 use Rattle.calculus.specs.declared.network.Network.{Network}
 use Rattle.calculus.specs.declared.packet.Item.{Item}
@@ -75,6 +75,7 @@ none-inactive i h = go (isActive i) h
 module _ (P Q : Item → Type 0) (f : (i : Item) → P i → Q i) where
   written-map : (o : Outcome) → Written P o → Written Q o
   written-map (Wrote i) h = f i h
+  written-map (WroteByDefault i) h = f i h
   written-map (WroteTwo i j) h = (f i (h .0), f j (h .1))
   written-map (Lost k) h = tt
   written-map Denied h = tt
@@ -83,6 +84,7 @@ module _ (P Q : Item → Type 0) (f : (i : Item) → P i → Q i) where
 
 pub written-inactive : (o : Outcome) → weighOut active o ≤ 0 → Written Inactive o
 written-inactive (Wrote i) h = none-inactive i (omega arith)
+written-inactive (WroteByDefault i) h = none-inactive i (omega arith)
 written-inactive (WroteTwo i j) h = (none-inactive i (omega arith), none-inactive j (omega arith))
 written-inactive (Lost k) h = tt
 written-inactive Denied h = tt

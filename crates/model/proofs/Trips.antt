@@ -7,10 +7,11 @@ use lib.Dec.{eqb}
 use borrow.Author.Tests.{eqb-true, eqb-false, eq-eqb}
 use Rattle.calculus.proofs.Tests.{never, either}
 use Rattle.calculus.specs.declared.answer.Loss.{Loss}
+use Rattle.calculus.specs.declared.effect.Outcome.the-variants.{WroteByDefault}
 use Rattle.calculus.specs.declared.effect.Effect.{Effect}
 use Rattle.calculus.specs.declared.network.Network.{Network}
 use Rattle.calculus.specs.declared.network.NextHop.{NextHop}
-use Rattle.calculus.specs.declared.network.NextHop.the-variants.{Found, Missing}
+use Rattle.calculus.specs.declared.network.NextHop.the-variants.{Exact, Default, Missing}
 use Rattle.calculus.specs.declared.packet.Payload.{Payload}
 use Rattle.calculus.specs.declared.packet.Packet.{Packet}
 use Rattle.calculus.specs.declared.packet.Via.the-variants.{Untunnelled}
@@ -20,7 +21,7 @@ use Rattle.calculus.specs.declared.state.Part.{Part}
 use Rattle.model.specs.Network.{isGateway, nextHop}
 use Rattle.model.specs.Packet.{hopLimit, bare}
 use Rattle.model.specs.Row.{held, newest}
-use Rattle.model.specs.Rules.{lost, writes, discovers, unprotected, onward, wireRule, outRule, upRule, agrees, received, inRule, rule}
+use Rattle.model.specs.Rules.{only, lost, writes, discovers, unprotected, onward, wireRule, outRule, upRule, agrees, received, inRule, rule}
 use Rattle.model.specs.Termination.{tripSteps}
 
 -- where it can stand, and how many steps can follow until it is received
@@ -40,6 +41,7 @@ trip-some stripped = omega arith
 pub data Travels (p : Packet) (j : ℕ) : Effect → Type 0 where
   gone : (x : Loss) → Travels p j (lost x)
   further : (k : ℕ) (i : Item) → Trip p k i → k < j → Travels p j (writes i)
+  byDefault : (k : ℕ) (i : Item) → Trip p k i → k < j → Travels p j (only (WroteByDefault i))
   comes : Travels p j (received (p .destination) (p .source) (p .payload))
 
 module _ (n : Network) (standing : ℕ → ℕ → Bool) (t : Part) (x z : ℕ) (y : Payload)
@@ -48,8 +50,9 @@ module _ (n : Network) (standing : ℕ → ℕ → Bool) (t : Part) (x z : ℕ) 
   packet = bare x z y
 
   onward-travels : (next : NextHop) (h : ℕ) → (h ≡ 0 → ⊥) → Travels packet (h + 3) (onward next packet h)
+  onward-travels (Exact next) h k = further (h - 1 + 3) _ (onWire next (h - 1)) (omega arith)
+  onward-travels (Default next) h k = byDefault (h - 1 + 3) _ (onWire next (h - 1)) (omega arith)
   onward-travels Missing h k = gone _
-  onward-travels (Found next) h k = further (h - 1 + 3) _ (onWire next (h - 1)) (omega arith)
 
   -- where it is still to be sent, it is sent bare
   pub travels : {j : ℕ} {i : Item} → (tripSteps ≤ j → newest (held t) true x packet ≡ Untunnelled) → Trip packet j i → Travels packet j (rule n standing t i)

@@ -9,7 +9,7 @@ use lib.ListN.{length, set, length-set}
 use borrow.Author.Tests.{eqb-true}
 use Rattle.calculus.proofs.Tests.{both, never, either}
 use Rattle.calculus.specs.declared.effect.Outcome.{Outcome}
-use Rattle.calculus.specs.declared.effect.Outcome.the-variants.{Wrote, WroteTwo, Lost, Denied, Opened, Delivered}
+use Rattle.calculus.specs.declared.effect.Outcome.the-variants.{Wrote, WroteByDefault, WroteTwo, Lost, Denied, Opened, Delivered}
 use Rattle.calculus.specs.declared.effect.Wait.{Wait}
 use Rattle.calculus.specs.declared.effect.Wait.the-variants.{NoWait, Discovery, Establishment}
 use Rattle.calculus.specs.declared.effect.Effect.{Effect}
@@ -35,6 +35,7 @@ weigh w (s ∷ l) = w (s .item) + weigh w l
 -- the items that an outcome writes
 abbrev pub weighOut : (Item → ℕ) → Outcome → ℕ
 weighOut w (Wrote i) = w i
+weighOut w (WroteByDefault i) = w i
 weighOut w (WroteTwo i j) = w i + w j
 weighOut w (Lost k) = 0
 weighOut w Denied = 0
@@ -204,6 +205,7 @@ length-use l v = simp length-set
 
 length-written : (l : List Slot) (n : ℕ) (o : Outcome) → length (written l n o) ≡ length l
 length-written l n (Wrote i) = simp length-put
+length-written l n (WroteByDefault i) = simp length-put
 length-written l n (WroteTwo i j) = simp length-put
 length-written l n (Lost k) = refl
 length-written l n Denied = refl
@@ -220,6 +222,7 @@ module _ (w : Item → ℕ) (z : w Free ≡ 0) where
   weigh-written : (l : List Slot) (n : ℕ) (o : Outcome) → weigh (count isPending) l + writtenCount o ≤ length l
       → weigh w (written l n o) ≡ weigh w l + weighOut w o
   weigh-written l n (Wrote i) h = weigh-put w z l (n + 1) i (omega arith)
+  weigh-written l n (WroteByDefault i) h = weigh-put w z l (n + 1) i (omega arith)
   weigh-written l n (WroteTwo i j) h =
       let room = weigh-put (count isPending) refl l (n + 1) i (omega arith) in
       weigh-put w z (putItem l (n + 1) i) _ j (omega (arith, room, one-le (isPending i), length-put l (n + 1) i))

@@ -6,7 +6,7 @@ use mathlib.Core.Option.{Option, none, some}
 use lib.Dec.{ltb, eqb}
 use lib.ListN.{length, drop}
 use Rattle.calculus.specs.declared.answer.Answer.{Answer}
-use Rattle.calculus.specs.declared.answer.Answer.the-variants.{Ok, Made, MadeTwo, Lost, Denied, Opened, Delivered, Closed, No}
+use Rattle.calculus.specs.declared.answer.Answer.the-variants.{Ok, Made, MadeByDefault, MadeTwo, Lost, Denied, Opened, Delivered, Closed, No}
 use Rattle.calculus.specs.declared.answer.Refusal.{Refusal}
 use Rattle.calculus.specs.declared.answer.Refusal.the-variants.{Short}
 use Rattle.calculus.specs.declared.request.Request as request
@@ -45,6 +45,7 @@ pub record Reply : Type 0 where
 abbrev pub refusalIn : Answer → Option Refusal
 refusalIn Ok = none
 refusalIn (Made n) = none
+refusalIn (MadeByDefault n) = none
 refusalIn (MadeTwo n m) = none
 refusalIn (Lost l) = none
 refusalIn Denied = none

@@ -6,15 +6,15 @@ use mathlib.Core.List.{List, [], _∷_, map}
 use mathlib.Core.Logic.{_↔_}
 use lib.Dec.{ltb}
 use lib.ListN.{length}
+use Rattle.calculus.specs.Number.{isNode, isDestination}
 use Rattle.calculus.specs.declared.answer.Answer.the-variants.{Ok}
 use Rattle.calculus.specs.declared.network.Network.{Network}
-use Rattle.calculus.specs.declared.network.NextHop.the-variants.{Found}
 use Rattle.calculus.specs.declared.network.Node.{Node}
 use Rattle.calculus.specs.declared.state.State.{State}
 use Rattle.forms.specs.Text.{Form, node, route, «open», step, send, close, show, net, text}
 use Rattle.forms.specs.Line.{lines}
 use Rattle.model.specs.Lists.{All, Rising}
-use Rattle.model.specs.Network.{noNode, nextHop}
+use Rattle.model.specs.Network.{noNode, routeTo, isRouted}
 use Rattle.model.specs.NetworkText.{networkForms, networkLines, networkText}
 use Rattle.model.specs.State.{fresh}
 use Rattle.model.specs.Requests.{accepted, nodesGiven, leadsBack}
@@ -32,9 +32,10 @@ pub record IsPlace (x : Node) : Type 0 where
 -- the tables have their sizes, each place is one, and each route is one that refusals 4 and 8 let pass
 pub record Consistent (n : Network) : Type 0 where
   pub nodes : length (n .nodes) ≡ 32
-  pub routes : length (n .routes) ≡ 1024
+  pub routes : length (n .routes) ≡ 1056
   pub places : All IsPlace (n .nodes)
-  pub routed : (a b next : ℕ) → nextHop n a b ≡ Found next → (nodesGiven n a b next ≡ true) × (leadsBack a b next ≡ false)
+  pub routed : (a b : ℕ) → isNode a ≡ true → isDestination b ≡ true → isRouted n a b ≡ true
+      → (nodesGiven n a b (routeTo n a b) ≡ true) × (leadsBack a b (routeTo n a b) ≡ false)
 
 -- ---- the text's order
 

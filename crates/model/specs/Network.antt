@@ -2,7 +2,7 @@
 use Prim.Native.Nat.{ℕ, _+_, _*_, _-_}
 use mathlib.Core.Bool.{Bool, true, false, cond, not, _&&_, _||_}
 use mathlib.Core.List.{List, [], _∷_}
-use lib.Dec.{eqb}
+use lib.Dec.{ltb, eqb}
 use lib.ListN.{getD}
 use Rattle.calculus.specs.Number.{isNode}
 use Rattle.calculus.specs.declared.network.Kind.{Kind}
@@ -10,7 +10,7 @@ use Rattle.calculus.specs.declared.network.Kind.the-variants.{Host, Gateway}
 use Rattle.calculus.specs.declared.network.Node.{Node}
 use Rattle.calculus.specs.declared.network.Network.{Network}
 use Rattle.calculus.specs.declared.network.NextHop.{NextHop}
-use Rattle.calculus.specs.declared.network.NextHop.the-variants.{Found, Missing}
+use Rattle.calculus.specs.declared.network.NextHop.the-variants.{Exact, Default, Missing}
 use Rattle.forms.specs.Request.{noCredentials}
 
 -- the place of a node that was not given
@@ -31,17 +31,28 @@ isGate Gateway = true
 abbrev pub isGateway : Network → ℕ → Bool
 isGateway n a = isGate (nodeAt n a .kind)
 
--- the place of the route from a for b
+-- destination 0: the default route, which is taken "wherever node 2 has no route of its own"
+abbrev pub isDefault : ℕ → Bool
+isDefault b = eqb b 0
+
+-- the place of the route from a for destination b
 abbrev pub routePlace : ℕ → ℕ → ℕ
-routePlace a b = 32 * (a - 1) + (b - 1)
+routePlace a b = 33 * (a - 1) + b
 
--- a stored next node: 0 where there is no route
-abbrev pub hop : ℕ → NextHop
-hop next = cond (eqb next 0) Missing (Found next)
+-- the next node that was given from a for destination b: 0 where there is no such route
+abbrev pub routeTo : Network → ℕ → ℕ → ℕ
+routeTo n a b = getD (n .routes) (routePlace a b) 0
 
--- "A route (at, destination, next) gives the next node."
+abbrev pub isRouted : Network → ℕ → ℕ → Bool
+isRouted n a b = ltb 0 (routeTo n a b)
+
+-- "The look-up now says exact, default or none", by the next node of either route, or 0
+abbrev pub hop : ℕ → ℕ → NextHop
+hop exact default = cond (ltb 0 exact) (Exact exact) (cond (ltb 0 default) (Default default) Missing)
+
+-- "A route (at, destination, next) gives the next node.": from node a for node b
 unfoldable pub nextHop : Network → ℕ → ℕ → NextHop
-nextHop n a b = cond (isNode a && isNode b) (hop (getD (n .routes) (routePlace a b) 0)) Missing
+nextHop n a b = cond (isNode a && isNode b) (hop (routeTo n a b) (routeTo n a 0)) Missing
 
 -- every credential of the second set is in the first
 unfoldable pub covers : List Bool → List Bool → Bool

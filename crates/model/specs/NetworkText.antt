@@ -13,9 +13,10 @@ use Rattle.forms.specs.Request.{nodeOf}
 abbrev pub nodeForm : ℕ → Node → List Form
 nodeForm a x = onlyIf (x .given) (nodeOf a (x .kind) (x .has) (x .needs))
 
--- the form that gives the route at place p of the table, which leads to next, if there is one: p is `routePlace` of the two nodes
+-- the form that gives the route at place p of the table, which leads to next, if there is one: p is `routePlace` of its at and its
+-- destination, so a default is the first of its node's routes
 abbrev pub routeForm : ℕ → ℕ → List Form
-routeForm p next = onlyIf (ltb 0 next) (route (p / 32 + 1) (p % 32 + 1) next)
+routeForm p next = onlyIf (ltb 0 next) (route (p / 33 + 1) (p % 33) next)
 
 -- "in its own forms": "nodes rising, then routes by at, then by destination"
 abbrev pub networkForms : Network → List Form

@@ -7,7 +7,7 @@ use mathlib.Core.Option.{Option, none, some}
 use Rattle.calculus.specs.Answer.{refusalNumber}
 use Rattle.calculus.specs.Number.{isNode, isSession}
 use Rattle.calculus.specs.declared.answer.Answer.{Answer}
-use Rattle.calculus.specs.declared.answer.Answer.the-variants.{Ok, Made, MadeTwo, Lost, Denied, Opened, Delivered, Closed, No}
+use Rattle.calculus.specs.declared.answer.Answer.the-variants.{Ok, Made, MadeByDefault, MadeTwo, Lost, Denied, Opened, Delivered, Closed, No}
 use Rattle.calculus.specs.declared.answer.Refusal.{Refusal}
 use Rattle.calculus.specs.declared.packet.Slot.{Slot}
 use Rattle.calculus.specs.declared.session.Row.{Row}
@@ -39,6 +39,7 @@ observed r = record { lines = linesOf r; number = numberOf (r .refusal) }
 abbrev pub numbersIn : Answer → List ℕ
 numbersIn Ok = []
 numbersIn (Made n) = n .0 ∷ []
+numbersIn (MadeByDefault n) = n .0 ∷ []
 numbersIn (MadeTwo n m) = n .0 ∷ m .0 ∷ []
 numbersIn (Lost l) = []
 numbersIn Denied = []

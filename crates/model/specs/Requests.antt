@@ -12,8 +12,6 @@ use Rattle.calculus.specs.declared.answer.Refusal.the-variants.{Double, Unknown
 use Rattle.calculus.specs.declared.answer.Refusal.the-variants as refusal
 use Rattle.calculus.specs.declared.network.Kind.{Kind}
 use Rattle.calculus.specs.declared.network.Network.{Network}
-use Rattle.calculus.specs.declared.network.NextHop.{NextHop}
-use Rattle.calculus.specs.declared.network.NextHop.the-variants.{Found, Missing}
 use Rattle.calculus.specs.declared.packet.Payload.the-variants.{Disc, Data}
 use Rattle.calculus.specs.declared.packet.Item.{Item}
 use Rattle.calculus.specs.declared.packet.Item.the-variants.{Wire, Out}
@@ -29,7 +27,7 @@ use Rattle.calculus.specs.declared.state.Turn.{Turn}
 use Rattle.calculus.specs.Table.{entriesFrom, onlyIf}
 use Rattle.forms.specs.Answer.{associationLine, endLine}
 use Rattle.model.specs.Lists.{place}
-use Rattle.model.specs.Network.{given, isGateway, nextHop, routePlace}
+use Rattle.model.specs.Network.{given, isGateway, isDefault, routePlace, isRouted}
 use Rattle.model.specs.Packet.{hopLimit, bare}
 use Rattle.model.specs.Item.{isWait, isDataItem, howManyItems}
 use Rattle.model.specs.Row.{held, placeOut, placeNode, placePeer, raised, lowered, spiOf}
@@ -74,25 +72,21 @@ nodeChecks opened n a = (opened, Late) ∷ (given n a, Double) ∷ []
 unfoldable pub nodeTurn : State → ℕ → Kind → List Bool → List Bool → Turn
 nodeTurn s a k has needs = checked (refused s) (nodeChecks (s .opened) (s .network) a) (accepted s (withNode (s .network) a k has needs))
 
-abbrev pub isFound : NextHop → Bool
-isFound (Found next) = true
-isFound Missing = false
-
--- the nodes of a route are given
+-- the nodes of a route are given: destination 0 "needs no node"
 abbrev pub nodesGiven : Network → ℕ → ℕ → ℕ → Bool
-nodesGiven n a b next = given n a && (given n b && given n next)
+nodesGiven n a b next = given n a && ((isDefault b || given n b) && given n next)
 
 -- it leads from a node for that node, or to that node
 abbrev pub leadsBack : ℕ → ℕ → ℕ → Bool
 leadsBack a b next = eqb a b || eqb a next
 
--- route 5, 4, 8, 3
+-- route 5, 4, 8, 3: "A second default is refused as double", as a second route for a node is
 abbrev pub routeChecks : Bool → Network → ℕ → ℕ → ℕ → List Check
 routeChecks opened n a b next =
     (opened, Late)
     ∷ (not (nodesGiven n a b next), Unknown)
     ∷ (leadsBack a b next, Same)
-    ∷ (isFound (nextHop n a b), Double)
+    ∷ (isRouted n a b, Double)
     ∷ []
 
 unfoldable pub routeTurn : State → ℕ → ℕ → ℕ → Turn

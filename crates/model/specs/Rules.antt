@@ -6,14 +6,14 @@ use lib.Dec.{leb, eqb}
 use Rattle.calculus.specs.declared.answer.Loss.{Loss}
 use Rattle.calculus.specs.declared.answer.Loss.the-variants.{Unprotected, HopLimit, NoRoute, NoTunnel, WrongTunnel, Exhausted}
 use Rattle.calculus.specs.declared.effect.Outcome.{Outcome}
-use Rattle.calculus.specs.declared.effect.Outcome.the-variants.{Wrote, WroteTwo, Lost, Denied, Opened, Delivered}
+use Rattle.calculus.specs.declared.effect.Outcome.the-variants.{Wrote, WroteByDefault, WroteTwo, Lost, Denied, Opened, Delivered}
 use Rattle.calculus.specs.declared.effect.Wait.{Wait}
 use Rattle.calculus.specs.declared.effect.Wait.the-variants.{NoWait, Discovery, Establishment}
 use Rattle.calculus.specs.declared.effect.Added.the-variants.{NoRows, Two}
 use Rattle.calculus.specs.declared.effect.Begins.the-variants.{Nothing, Next}
 use Rattle.calculus.specs.declared.effect.Effect.{Effect}
 use Rattle.calculus.specs.declared.network.NextHop.{NextHop}
-use Rattle.calculus.specs.declared.network.NextHop.the-variants.{Found, Missing}
+use Rattle.calculus.specs.declared.network.NextHop.the-variants.{Exact, Default, Missing}
 use Rattle.calculus.specs.declared.packet.Payload.{Payload}
 use Rattle.calculus.specs.declared.packet.Payload.the-variants.{Req, Rep, Disc, Done, Data}
 use Rattle.calculus.specs.declared.packet.Header.{Header}
@@ -91,20 +91,22 @@ begin a p e = record { outcome = WroteTwo (Dwait a) (Est a p e); wait = NoWait; 
 abbrev pub unprotected : Bool → Packet → Bool
 unprotected gateway p = gateway && (isBare (p .header) && isDataOrDone (p .payload))
 
+-- the case of a packet that moves, by what the look-up says: "Lost 3 is left for neither"
 abbrev pub onward : NextHop → Packet → ℕ → Effect
+onward (Exact next) p hops = writes (Wire next p (hops - 1))
+onward (Default next) p hops = only (WroteByDefault (Wire next p (hops - 1)))
 onward Missing p hops = lost NoRoute
-onward (Found next) p hops = writes (Wire next p (hops - 1))
 
--- wire(a, packet, h): "the first that fits". No list of calls tells the order of lost 1 and lost 2: bare Data or Done is lost at the
+-- wire(a, packet, h), where `look` gives a's next hop for a node: "the first that fits". No list of calls tells the order of lost 1 and lost 2: bare Data or Done is lost at the
 -- first gateway, and with one of the 32 nodes a gateway it comes there before its 32 hops are over, or never
-unfoldable pub wireRule : Bool → NextHop → Session → ℕ → Packet → ℕ → Effect
-wireRule gateway next s a p h =
+unfoldable pub wireRule : Bool → (ℕ → NextHop) → Session → ℕ → Packet → ℕ → Effect
+wireRule gateway look s a p h =
     cond (discovers gateway (s .server) a (p .payload))
     (cond (isExhausted s) (lost Exhausted) (begin a (lastPoint (p .payload)) (s .begun + 1)))
     (cond (eqb a (target p)) (writes (Up a p))
     (cond (unprotected gateway p) (lost Unprotected)
     (cond (eqb h 0) (lost HopLimit)
-    (onward next p h))))
+    (onward (look (target p)) p h))))
 
 -- ---- out
 
@@ -196,7 +198,7 @@ ackRule s a = writesFor (Discovery a) (acknowledged s a)
 -- the rule of an item; `standing a q` tells whether In(a, q) stands. A free place and a wait are refused before.
 unfoldable pub rule : Network → (ℕ → ℕ → Bool) → Part → Item → Effect
 rule n standing t Free = neverMet
-rule n standing t (Wire a p h) = wireRule (isGateway n a) (nextHop n a (target p)) (t .session) a p h
+rule n standing t (Wire a p h) = wireRule (isGateway n a) (nextHop n a) (t .session) a p h
 rule n standing t (Out a p) = outRule (held t) a p
 rule n standing t (Up a p) = upRule (headerStands standing a (p .header)) (held t) a p
 rule n standing t (In a p q) = inRule (held t) a p q

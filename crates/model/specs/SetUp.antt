@@ -5,12 +5,13 @@ use mathlib.Core.Bool.{Bool, true, false, cond, not, _&&_}
 use mathlib.Core.List.{List, [], _∷_, _++_}
 use lib.ListN.{length, getD}
 use Rattle.calculus.specs.declared.effect.Outcome.{Outcome}
-use Rattle.calculus.specs.declared.effect.Outcome.the-variants.{Wrote, WroteTwo, Lost, Denied, Opened, Delivered}
+use Rattle.calculus.specs.declared.effect.Outcome.the-variants.{Wrote, WroteByDefault, WroteTwo, Lost, Denied, Opened, Delivered}
 use Rattle.calculus.specs.declared.effect.Wait.{Wait}
 use Rattle.calculus.specs.declared.effect.Wait.the-variants.{NoWait, Discovery, Establishment}
 use Rattle.calculus.specs.declared.effect.Effect.{Effect}
 use Rattle.calculus.specs.declared.network.Network.{Network}
-use Rattle.calculus.specs.declared.network.NextHop.the-variants.{Found}
+use Rattle.calculus.specs.declared.network.NextHop.{NextHop}
+use Rattle.calculus.specs.declared.network.NextHop.the-variants.{Exact, Default, Missing}
 use Rattle.calculus.specs.declared.packet.Payload.{Payload}
 use Rattle.calculus.specs.declared.packet.Payload.the-variants.{Req, Rep, Disc, Done, Data}
 use Rattle.calculus.specs.declared.packet.Item.{Item}
@@ -117,6 +118,7 @@ hopsOf (Ewait a e) = 0
 -- the items that an outcome writes
 abbrev pub itemsOf : Outcome → List Item
 itemsOf (Wrote i) = i ∷ []
+itemsOf (WroteByDefault i) = i ∷ []
 itemsOf (WroteTwo i j) = i ∷ j ∷ []
 itemsOf (Lost k) = []
 itemsOf Denied = []
@@ -181,10 +183,16 @@ pub record Holds (s : State) (t : Part) : Type 0 where
   pub users : (out : Bool) (a q : ℕ) → areNodes a q ≡ true → usersOf (s .users) out a q ≡ rowsNaming out a q s (upFrom 0 8)
   pub fewUsers : (out : Bool) (a q : ℕ) → usersOf (s .users) out a q ≤ 256
 
+-- the next node, if the look-up gives one, was given
+abbrev pub LeadsToGiven : Network → NextHop → Type 0
+LeadsToGiven n (Exact next) = given n next ≡ true
+LeadsToGiven n (Default next) = given n next ≡ true
+LeadsToGiven n Missing = Unit
+
 -- of the network n; it follows from `Consistent` of GivenBack, and is what the rules rest on
 pub record HoldsNetwork (n : Network) : Type 0 where
   -- a route leads to a node that was given
-  pub routes : (a b next : ℕ) → nextHop n a b ≡ Found next → given n next ≡ true
+  pub routes : (a b : ℕ) → LeadsToGiven n (nextHop n a b)
   -- a gateway is a node that was given
   pub gateways : (a : ℕ) → isGateway n a ≡ true → given n a ≡ true
 

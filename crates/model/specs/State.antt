@@ -8,7 +8,7 @@ use lib.Seq.{sets, paste}
 use Rattle.calculus.specs.declared.answer.Answer as answer
 use Rattle.calculus.specs.declared.answer.Answer.the-variants as answers
 use Rattle.calculus.specs.declared.effect.Outcome.{Outcome}
-use Rattle.calculus.specs.declared.effect.Outcome.the-variants.{Wrote, WroteTwo, Lost, Denied, Opened, Delivered}
+use Rattle.calculus.specs.declared.effect.Outcome.the-variants.{Wrote, WroteByDefault, WroteTwo, Lost, Denied, Opened, Delivered}
 use Rattle.calculus.specs.declared.effect.Wait.{Wait}
 use Rattle.calculus.specs.declared.effect.Added.{Added}
 use Rattle.calculus.specs.declared.effect.Added.the-variants.{NoRows, Two}
@@ -47,7 +47,7 @@ abbrev pub fresh : State
 fresh =
     record {
       opened = false;
-      network = record { nodes = replicate 32 noNode; routes = replicate 1024 0 };
+      network = record { nodes = replicate 32 noNode; routes = replicate 1056 0 };
       sessions = replicate 8 blankSession;
       items = replicate 128 blankSlot;
       rows = replicate 256 blankRow;
@@ -94,6 +94,7 @@ putItem l n i = set l (place vacant l) (record { number = record { 0 = n }; item
 -- n being the last number, "the first named has the lower number"
 abbrev pub written : List Slot → ℕ → Outcome → List Slot
 written l n (Wrote i) = putItem l (n + 1) i
+written l n (WroteByDefault i) = putItem l (n + 1) i
 written l n (WroteTwo i j) = putItem (putItem l (n + 1) i) (n + 2) j
 written l n (Lost k) = l
 written l n Denied = l
@@ -103,6 +104,7 @@ written l n (Delivered tag) = l
 -- how many items are written
 abbrev pub writtenCount : Outcome → ℕ
 writtenCount (Wrote i) = 1
+writtenCount (WroteByDefault i) = 1
 writtenCount (WroteTwo i j) = 2
 writtenCount (Lost k) = 0
 writtenCount Denied = 0
@@ -112,6 +114,7 @@ writtenCount (Delivered tag) = 0
 -- "the numbers written", or why none is
 abbrev pub answerOf : ℕ → Outcome → answer.Answer
 answerOf n (Wrote i) = answers.Made (record { 0 = n + 1 })
+answerOf n (WroteByDefault i) = answers.MadeByDefault (record { 0 = n + 1 })
 answerOf n (WroteTwo i j) = answers.MadeTwo (record { 0 = n + 1 }) (record { 0 = n + 2 })
 answerOf n (Lost k) = answers.Lost k
 answerOf n Denied = answers.Denied
@@ -120,6 +123,7 @@ answerOf n (Delivered tag) = answers.Delivered tag
 
 abbrev pub stageAfter : Stage → Outcome → Stage
 stageAfter g (Wrote i) = g
+stageAfter g (WroteByDefault i) = g
 stageAfter g (WroteTwo i j) = g
 stageAfter g (Lost k) = g
 stageAfter g Denied = Stage.Denied

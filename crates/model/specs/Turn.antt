@@ -7,7 +7,7 @@ use mathlib.Core.Bool.{Bool, true, false, _||_}
 use mathlib.Core.List.{List}
 use lib.ListN.{length, getD}
 use Rattle.calculus.specs.declared.answer.Answer.{Answer}
-use Rattle.calculus.specs.declared.answer.Answer.the-variants.{Ok, Made, MadeTwo, Lost, Denied, Opened, Delivered, Closed, No}
+use Rattle.calculus.specs.declared.answer.Answer.the-variants.{Ok, Made, MadeByDefault, MadeTwo, Lost, Denied, Opened, Delivered, Closed, No}
 use Rattle.calculus.specs.declared.network.Network.{Network}
 use Rattle.calculus.specs.declared.request.Report.{Report}
 use Rattle.calculus.specs.declared.request.Report.the-variants.{NoReport, AllAssociations, WholeNetwork}
@@ -96,6 +96,7 @@ usersOf n users t (Refused r) = users
 abbrev pub isOk : Answer → Bool
 isOk Ok = true
 isOk (Made n) = false
+isOk (MadeByDefault n) = false
 isOk (MadeTwo n m) = false
 isOk (Lost l) = false
 isOk Denied = false

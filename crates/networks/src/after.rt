@@ -6,27 +6,18 @@ use calculus::network::Node;
 use calculus::request::Request;
 use forms::read::Parsed;
 use forms::read::Reading;
+use lookups::network::node_place;
+use lookups::network::route_place;
 ghost use mathlib.Core.Path.{_≡_};
 ghost use mathlib.Core.Bool.{cond};
-ghost use Prim.Native.Nat.{_-_};
 ghost use Rattle.model.specs.Requests as spec;
 ghost use Rattle.model.specs.Turn as turns;
-
-// The place of a node; 0 has that of node 1.
-fn place(a: u8) -> usize
-    ensures { λ r. ⌜ r ≡ a - 1 ⌝ }
-{
-    if a == 0 {
-        return 0;
-    }
-    a as usize - 1
-}
 
 // Past the end of a table nothing is stored, as the definition has it.
 fn with_node(n: Network, a: u8, kind: Kind, has: [bool; 64], needs: [bool; 64]) -> Network
     ensures { λ r. ⌜ r ≡ spec.withNode n a kind has needs ⌝ }
 {
-    let at = place(a);
+    let at = node_place(a);
     let mut next = n;
     if at < 32 {
         let node = Node {
@@ -43,9 +34,9 @@ fn with_node(n: Network, a: u8, kind: Kind, has: [bool; 64], needs: [bool; 64]) 
 fn with_route(n: Network, a: u8, b: u8, hop: u8) -> Network
     ensures { λ r. ⌜ r ≡ spec.withRoute n a b hop ⌝ }
 {
-    let at = 32 * place(a) + place(b);
+    let at = route_place(a, b);
     let mut next = n;
-    if at < 1024 {
+    if at < 1056 {
         next.routes[at] = hop;
     }
     next
@@ -91,6 +82,7 @@ fn is_ok(answer: Answer) -> bool
     match answer {
         Answer::Ok => true,
         Answer::Made(_) => false,
+        Answer::MadeByDefault(_) => false,
         Answer::MadeTwo(_, _) => false,
         Answer::Lost(_) => false,
         Answer::Denied => false,

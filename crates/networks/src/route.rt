@@ -2,21 +2,29 @@
 use calculus::answer::Answer;
 use calculus::answer::Refusal;
 use calculus::network::Network;
-use calculus::network::NextHop;
 use lookups::network::given;
-use lookups::network::next_hop;
+use lookups::network::route_to;
 ghost use mathlib.Core.Path.{_≡_};
-ghost use mathlib.Core.Bool.{not, _&&_, _||_};
-ghost use lib.Dec.{eqb};
+ghost use mathlib.Core.Bool.{not, _||_};
 ghost use Rattle.calculus.specs.declared.answer.Answer.the-variants.{Ok, No};
 ghost use Rattle.model.specs.Network as network;
 ghost use Rattle.model.specs.Requests as spec;
 
+// Whether the destination is 0, or a node that was given.
+fn is_destination_given(n: Network, b: u8) -> bool
+    ensures { λ r. ⌜ r ≡ (network.isDefault b || network.given n b) ⌝ }
+{
+    if b == 0 {
+        return true;
+    }
+    given(n, b)
+}
+
 fn is_route_unknown(n: Network, a: u8, b: u8, hop: u8) -> bool
-    ensures { λ r. ⌜ r ≡ not (network.given n a && (network.given n b && network.given n hop)) ⌝ }
+    ensures { λ r. ⌜ r ≡ not (spec.nodesGiven n a b hop) ⌝ }
 {
     if given(n, a) {
-        if given(n, b) {
+        if is_destination_given(n, b) {
             return !given(n, hop);
         }
     }
@@ -24,7 +32,7 @@ fn is_route_unknown(n: Network, a: u8, b: u8, hop: u8) -> bool
 }
 
 fn is_same(a: u8, b: u8, hop: u8) -> bool
-    ensures { λ r. ⌜ r ≡ (eqb a b || eqb a hop) ⌝ }
+    ensures { λ r. ⌜ r ≡ spec.leadsBack a b hop ⌝ }
 {
     if a == b {
         return true;
@@ -33,13 +41,10 @@ fn is_same(a: u8, b: u8, hop: u8) -> bool
 }
 
 fn has_route(n: Network, a: u8, b: u8) -> bool
-    ensures { λ r. ⌜ r ≡ spec.isFound (network.nextHop n a b) ⌝ }
+    ensures { λ r. ⌜ r ≡ network.isRouted n a b ⌝ }
 {
-    let next = next_hop(n, a, b);
-    match next {
-        NextHop::Found(_) => true,
-        NextHop::Missing => false,
-    }
+    let next = route_to(n, a, b);
+    0 < next
 }
 
 // route a b hop: refusals 5, 4, 8, 3.

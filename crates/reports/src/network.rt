@@ -1,5 +1,5 @@
 // The network's report. The caller has made sure of the room: a node's line is written where 400 bytes are left, and a route's
-// where 32 are, so all have at most 45,568.
+// where 32 are, so all have at most 46,592.
 use answers::report::write_node;
 use answers::report::write_route;
 use calculus::network::Network;
@@ -44,25 +44,25 @@ fn put_nodes(out: &mut [u8], at: usize, nodes: [Node; 32]) -> usize
 
 // The line of the route at place p, if there is one.
 fn put_route(out: &mut [u8], at: usize, p: usize, hop: u8) -> usize
-    requires { ⌜ (p < 1024) × (at + 32 ≤ length (now out)) ⌝ }
+    requires { ⌜ (p < 1056) × (at + 32 ≤ length (now out)) ⌝ }
     ensures { λ r. ⌜ Puts 32 (now (out .entry)) at (joined (map formLine (routeForm p hop))) (now (out .exit)) r ⌝ }
 {
     if 0 < hop {
-        let from = (p / 32 + 1) as u8;
-        let destination = (p % 32 + 1) as u8;
+        let from = (p / 33 + 1) as u8;
+        let destination = (p % 33) as u8;
         return write_route(out, at, from, destination, hop);
     }
     at
 }
 
 // The lines of all routes, by at, then by destination: the table's order.
-fn put_routes(out: &mut [u8], at: usize, routes: [u8; 1024]) -> usize
-    requires { ⌜ at + 32768 ≤ length (now out) ⌝ }
-    ensures { λ r. ⌜ Puts 32768 (now (out .entry)) at (joined (map formLine (entriesFrom routeForm 0 routes))) (now (out .exit)) r ⌝ }
+fn put_routes(out: &mut [u8], at: usize, routes: [u8; 1056]) -> usize
+    requires { ⌜ at + 33792 ≤ length (now out) ⌝ }
+    ensures { λ r. ⌜ Puts 33792 (now (out .entry)) at (joined (map formLine (entriesFrom routeForm 0 routes))) (now (out .exit)) r ⌝ }
 {
     let mut next = at;
     let mut i: usize = 0;
-    while i < 1024 {
+    while i < 1056 {
         next = put_route(out, next, i, routes[i]);
         i += 1;
     }

@@ -18,28 +18,14 @@ use forwarding::enter::enter;
 use forwarding::out::out;
 use forwarding::up::up;
 use forwarding::wire::wire;
-use items::packet::target;
 use lookups::network::has_all_needed;
-use lookups::network::is_gateway;
-use lookups::network::next_hop;
 use lookups::users::stands;
 ghost use mathlib.Core.Path.{_≡_};
 ghost use mathlib.Core.Bool.{false};
 ghost use lib.ListN.{take};
-ghost use Rattle.model.specs.Network.{hasAllNeeded, isGateway, nextHop};
-ghost use Rattle.model.specs.Packet as packet;
+ghost use Rattle.model.specs.Network.{hasAllNeeded};
 ghost use Rattle.model.specs.Row as row;
 ghost use Rattle.model.specs.Rules as spec;
-
-// Wire, with the route from `a` for the packet's target.
-fn wire_at(n: Network, s: Session, a: u8, p: Packet, h: u8) -> Effect
-    ensures { λ r. ⌜ r ≡ spec.wireRule (isGateway n a) (nextHop n a (packet.target p)) s a p h ⌝ }
-{
-    let gateway = is_gateway(n, a);
-    let to = target(p);
-    let next = next_hop(n, a, to);
-    wire(gateway, next, s, a, p, h)
-}
 
 // Whether the header is from some q, and In(a, q) stands.
 fn header_stands(users: &[u16; 2048], a: u8, h: Header) -> bool
@@ -88,7 +74,7 @@ pub fn rule(n: Network, users: &[u16; 2048], t: Part, i: Item) -> Effect
     let held = s.rows;
     match i {
         Item::Free => never_met(),
-        Item::Wire(a, p, h) => wire_at(n, s, a, p, h),
+        Item::Wire(a, p, h) => wire(n, s, a, p, h),
         Item::Out(a, p) => out(rows, held, a, p),
         Item::Up(a, p) => up_at(users, rows, held, a, p),
         Item::In(a, p, via) => enter(rows, held, a, p, via),

@@ -34,6 +34,7 @@ fn status_of(answer: Answer) -> Status
     match answer {
         Answer::Ok => Status::Answered,
         Answer::Made(_) => Status::Answered,
+        Answer::MadeByDefault(_) => Status::Answered,
         Answer::MadeTwo(_, _) => Status::Answered,
         Answer::Lost(_) => Status::Answered,
         Answer::Denied => Status::Answered,

@@ -29,7 +29,7 @@ pub fn fresh() -> State
         opened: false,
         network: Network {
             nodes: [node; 32],
-            routes: [0; 1024],
+            routes: [0; 1056],
         },
         sessions: [session; 8],
         items: [slot; 128],

@@ -2,7 +2,7 @@
 use native.Mathlib.Omega.{arith}
 use borrow.Author.Needs.{needs}
 use Rattle.forms.specs.Answer.{answerText}
-use Rattle.answers.proofs.Widths.{line-one, line-two}
+use Rattle.answers.proofs.Widths.{line-one, line-two, by-default-width}
 use Rattle.answers.proofs.write.put_answer.Statement.{statement}
 use Rattle.answers.proofs.write.put_answer.Tie as tie
 
@@ -11,9 +11,14 @@ put-one-requires c κs =
     let c₄ = c .before .before .before .before in
     omega (arith, line-one (c₄ .answer .given .0 .0 .0) (omega arith))
 
+put-by-default-requires : tie.Need-put-by-default-requires
+put-by-default-requires c κs =
+    let n = c .before .before .before .answer2 .given .0 .0 .0 in
+    omega (arith, by-default-width n (omega arith))
+
 put-line-requires : tie.Need-put-line-requires
 put-line-requires c κs =
-    let v = c .before .before .before .before .before .before .answer2 .given .0 in
+    let v = c .before .before .before .before .before .before .answer3 .given .0 in
     omega (arith, line-two (v .0 .0) (v .1 .0 .0) (omega arith) (omega arith))
 
 put-one-requires-2 : tie.Need-put-one-requires-2
@@ -22,7 +27,7 @@ put-one-requires-2 c κs = omega (arith, line-one (c .number .result) (omega ari
 put-one-requires-3 : tie.Need-put-one-requires-3
 put-one-requires-3 c κs =
     let c₃ = c .before .before .before in
-    omega (arith, line-one (c₃ .answer4 .given .0 .0) (omega arith))
+    omega (arith, line-one (c₃ .answer5 .given .0 .0) (omega arith))
 
 put-one-requires-4 : tie.Need-put-one-requires-4
 put-one-requires-4 c κs = omega (arith, line-one (c .number2 .result) (omega arith))
@@ -42,47 +47,53 @@ returns-2 c =
 returns-3 : tie.Need-returns-3
 unfolding answerText
 returns-3 c =
-    let c₉ = c .before .before .before .before .before .before .before .before .before in
-    rw (c₉ .answer2 .given .1) (c .before .before .put-line .ensures)
+    let c₆ = c .before .before .before .before .before .before in
+    rw (c₆ .answer2 .given .1) (c .before .before .put-by-default .ensures)
 
 returns-4 : tie.Need-returns-4
 unfolding answerText
 returns-4 c =
-    let c₃ = c .before .before .before in
-    let c₇ = c₃ .before .before .before .before in
-    rw (c₇ .answer3 .given .1, ← c₃ .number .ensures)
-    (c .before .before .put-one2 .ensures)
+    let c₉ = c .before .before .before .before .before .before .before .before .before in
+    rw (c₉ .answer3 .given .1) (c .before .before .put-line .ensures)
 
 returns-5 : tie.Need-returns-5
 unfolding answerText
 returns-5 c =
-    let c₅ = c .before .before .before .before .before in
-    rw (c₅ .enum-told2 .given .1) (c .before .before .put-word2 .ensures)
+    let c₃ = c .before .before .before in
+    let c₇ = c₃ .before .before .before .before in
+    rw (c₇ .answer4 .given .1, ← c₃ .number .ensures)
+    (c .before .before .put-one2 .ensures)
 
 returns-6 : tie.Need-returns-6
 unfolding answerText
 returns-6 c =
     let c₅ = c .before .before .before .before .before in
-    rw (c₅ .enum-told3 .given .1) (c .before .before .put-word3 .ensures)
+    rw (c₅ .enum-told2 .given .1) (c .before .before .put-word2 .ensures)
 
 returns-7 : tie.Need-returns-7
 unfolding answerText
 returns-7 c =
-    let c₆ = c .before .before .before .before .before .before in
-    rw (c₆ .answer4 .given .1) (c .before .before .put-one3 .ensures)
+    let c₅ = c .before .before .before .before .before in
+    rw (c₅ .enum-told3 .given .1) (c .before .before .put-word3 .ensures)
 
 returns-8 : tie.Need-returns-8
 unfolding answerText
 returns-8 c =
-    let c₅ = c .before .before .before .before .before in
-    rw (c₅ .enum-told4 .given .1) (c .before .before .put-word4 .ensures)
+    let c₆ = c .before .before .before .before .before .before in
+    rw (c₆ .answer5 .given .1) (c .before .before .put-one3 .ensures)
 
 returns-9 : tie.Need-returns-9
 unfolding answerText
 returns-9 c =
+    let c₅ = c .before .before .before .before .before in
+    rw (c₅ .enum-told4 .given .1) (c .before .before .put-word4 .ensures)
+
+returns-10 : tie.Need-returns-10
+unfolding answerText
+returns-10 c =
     let c₃ = c .before .before .before in
     let c₇ = c₃ .before .before .before .before in
-    rw (c₇ .answer5 .given .1, ← c₃ .number2 .ensures)
+    rw (c₇ .answer6 .given .1, ← c₃ .number2 .ensures)
     (c .before .before .put-one4 .ensures)
 
 -- what has no name above is found by search
@@ -97,6 +108,9 @@ put-answer-spec =
     (λ c. search needs)
     (λ c. search needs)
     put-one-requires
+    (λ c. search needs)
+    (λ c. search needs)
+    put-by-default-requires
     (λ c. search needs)
     (λ c. search needs)
     (λ c. search needs)
@@ -143,4 +157,6 @@ put-answer-spec =
     (λ c. search needs)
     returns-8
     (λ c. search needs)
-    returns-9)
+    returns-9
+    (λ c. search needs)
+    returns-10)

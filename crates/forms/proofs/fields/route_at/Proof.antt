@@ -16,7 +16,7 @@ values c = c .before .before .before .before .before .before .before .before .be
 in-range : (c : tie.Then2) → (getD (values c) 0 0 ≤ 32) × (getD (values c) 1 0 ≤ 32) × (getD (values c) 2 0 ≤ 32)
 in-range c =
     let c₄ = c .before .before .before .before in
-    all-within (values c) 1 32 1 32 (c₄ .is-node .ensures) (c .before .before .before .is-node2 .ensures) 1 32 (c .before .before .is-node3 .ensures) (c .before .all .ensures) (c .if2 .taken)
+    all-within (values c) 1 32 0 32 (c₄ .is-node .ensures) (c .before .before .before .is-destination .ensures) 1 32 (c .before .before .is-node2 .ensures) (c .before .all .ensures) (c .if2 .taken)
 
 returns : tie.Need-returns
 returns c =
@@ -24,7 +24,7 @@ returns c =
     let c₅ = c₂ .before .before .before in
     let c₁₀ = c₅ .before .before .before .before .before in
     form-read routeWith 3 (c₁₀ .read-fields .result) (c₁₀ .read-fields .ensures) (c₅ .before .before .before .before .if1 .taken)
-    (c .asks .ensures ∙ rw (all-flags (c₅ .is-node .ensures) (c₂ .before .before .is-node2 .ensures) (c₂ .before .is-node3 .ensures) (c₂ .all .ensures) (c .before .if2 .taken)))
+    (c .asks .ensures ∙ rw (all-flags (c₅ .is-node .ensures) (c₂ .before .before .is-destination .ensures) (c₂ .before .is-node2 .ensures) (c₂ .all .ensures) (c .before .if2 .taken)))
 
 returns-2 : tie.Need-returns-2
 returns-2 c =
@@ -32,7 +32,7 @@ returns-2 c =
     let c₅ = c₂ .before .before .before in
     let c₁₀ = c₅ .before .before .before .before .before in
     form-read routeWith 3 (c₁₀ .read-fields .result) (c₁₀ .read-fields .ensures) (c₅ .before .before .before .before .if1 .taken)
-    (c .refused .ensures ∙ rw (all-flags (c₅ .is-node .ensures) (c₂ .before .before .is-node2 .ensures) (c₂ .before .is-node3 .ensures) (c₂ .all .ensures) (c .before .if2 .left)))
+    (c .refused .ensures ∙ rw (all-flags (c₅ .is-node .ensures) (c₂ .before .before .is-destination .ensures) (c₂ .before .is-node2 .ensures) (c₂ .all .ensures) (c .before .if2 .left)))
 
 returns-3 : tie.Need-returns-3
 returns-3 c =

@@ -2,17 +2,17 @@
 use borrow.Author.Needs.{needs}
 use Prim.Native.Nat.{_-_, _≤_}
 use lib.Seq.{set-out}
-use Rattle.networks.proofs.Fields.{upto-mapped}
+use Rattle.lookups.proofs.Within.{upto-mapped}
 use Rattle.networks.proofs.after.with_node.Statement.{statement}
 use Rattle.networks.proofs.after.with_node.Tie as tie
 
 returns : tie.Need-returns
-returns c = simp (c .before .place .ensures)
+returns c = simp (c .before .node-place .ensures)
 
 returns-2 : tie.Need-returns-2
 returns-2 c =
     let x = c .before .before .args in
-    let h : 32 ≤ x .a - 1 = rw (c .before .place .ensures) at (c .if1 .left) in
+    let h : 32 ≤ x .a - 1 = rw (c .before .node-place .ensures) at (c .if1 .left) in
     rw (set-out (x .n .nodes) (x .a - 1) _ (search (needs, upto-mapped, h)))
 
 pub with-node-spec : {M : Type 1} → statement M

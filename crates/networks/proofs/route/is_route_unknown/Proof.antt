@@ -7,15 +7,15 @@ use Rattle.networks.proofs.route.is_route_unknown.Tie as tie
 returns : tie.Need-returns
 returns c =
     simp (
-      c .given3 .ensures,
-      join (c .before .before .given2 .ensures) (c .before .if2 .taken),
+      c .given2 .ensures,
+      join (c .before .before .is-destination-given .ensures) (c .before .if2 .taken),
       join (c .before .before .before .before .given .ensures) (c .before .before .before .if1 .taken),
     )
 
 returns-2 : tie.Need-returns-2
 returns-2 c =
     simp (
-      join (c .before .given2 .ensures) (c .if2 .left),
+      join (c .before .is-destination-given .ensures) (c .if2 .left),
       join (c .before .before .before .given .ensures) (c .before .before .if1 .taken),
     )
 

@@ -17,5 +17,4 @@ returns-2 c = puts-skip formLine _ (le-ltb _ _ (c .if1 .left))
 pub put-route-spec : {M : Type 1} → statement M
 put-route-spec =
     tie.close
-    (tie.spec (λ c. search needs) (λ c. search needs) (λ c. search needs) (λ c. search needs) (λ c κs. search needs) (λ c. search needs)
-    returns returns-2)
+    (tie.spec (λ c. search needs) (λ c. search needs) (λ c. search needs) (λ c κs. search needs) (λ c. search needs) returns returns-2)

@@ -12,7 +12,7 @@ abbrev Inv-loop : tie.InvT-loop
 Inv-loop out₀ at routes next₀ i₀ out next i = Firsts formLine routeForm 0 32 routes out₀ at i out next
 
 abbrev μ-loop : tie.MeasureT-loop
-μ-loop out₀ at routes next₀ i₀ out next i = 1024 - i
+μ-loop out₀ at routes next₀ i₀ out next i = 1056 - i
 
 loop-holds : tie.Need-loop-holds Inv-loop μ-loop
 loop-holds c = firsts-none

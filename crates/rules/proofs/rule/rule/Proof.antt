@@ -10,7 +10,7 @@ returns c = simp (c .never-met .ensures, c .before .enum-told .given .1)
 
 returns-2 : tie.Need-returns-2
 unfolding rule
-returns-2 c = simp (c .wire-at .ensures, c .before .before .i .given .1)
+returns-2 c = simp (c .wire .ensures, c .before .before .i .given .1)
 
 returns-3 : tie.Need-returns-3
 unfolding rule

@@ -3,8 +3,8 @@ use borrow.Author.Needs.{needs}
 use Rattle.simulator.proofs.call.status_of.Statement.{statement}
 use Rattle.simulator.proofs.call.status_of.Tie as tie
 
-returns-9 : tie.Need-returns-9
-returns-9 c = simp (c .before .answer .given .1)
+returns-10 : tie.Need-returns-10
+returns-10 c = simp (c .before .answer .given .1)
 
 pub status-of-spec : {M : Type 1} → statement M
 status-of-spec =
@@ -27,4 +27,6 @@ status-of-spec =
     (λ c. search needs)
     (λ c. search needs)
     (λ c. search needs)
-    returns-9)
+    (λ c. search needs)
+    (λ c. search needs)
+    returns-10)
