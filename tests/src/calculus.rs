@@ -1,6 +1,6 @@
 //! Packets, items, rows and the rule of each kind of item.
 
-use crate::network::Network;
+use crate::network::{LookUp, Network};
 use std::collections::BTreeMap;
 
 const HOPS: u64 = 32;
@@ -129,6 +129,8 @@ pub struct Row {
 /// What a step leads to.
 pub enum Outcome {
     Made(Vec<Item>),
+    /// on the wire, moved by a default route
+    MadeByDefault(Item),
     Lost(u64),
     Denied,
     Opened,
@@ -200,9 +202,11 @@ impl Session {
         if hops == 0 {
             return Outcome::Lost(2);
         }
-        match network.routes.get(&(at, to)) {
-            Some(&next) => made(Item::Wire { at: next, packet, hops: hops - 1 }),
-            None => Outcome::Lost(3),
+        let moved = |next: u64| Item::Wire { at: next, packet, hops: hops - 1 };
+        match network.look_up(at, to) {
+            LookUp::Exact(next) => made(moved(next)),
+            LookUp::Default(next) => Outcome::MadeByDefault(moved(next)),
+            LookUp::None => Outcome::Lost(3),
         }
     }
 

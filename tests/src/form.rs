@@ -1,11 +1,14 @@
 //! Reads one line of the form language: first its shape (refusal 1), then the range of its numbers (refusal 2).
 
+use crate::network::DEFAULT;
 use std::ops::RangeInclusive;
 
 /// The most bytes that a line may have before its newline.
 pub const LONGEST: usize = 400;
 
 pub const NODES: RangeInclusive<u64> = 1..=32;
+/// A route's destinations: the nodes, and that of a default.
+const DESTINATIONS: RangeInclusive<u64> = DEFAULT..=32;
 pub const SESSIONS: RangeInclusive<u64> = 1..=8;
 const ITEMS: RangeInclusive<u64> = 1..=1_000_000;
 const SIDES: RangeInclusive<u64> = 0..=1;
@@ -57,7 +60,9 @@ impl Form {
     pub fn in_range(&self) -> bool {
         match self {
             Form::Node { node, has, needs, .. } => NODES.contains(node) && rising(has) && rising(needs),
-            Form::Route { at, destination, next } => [at, destination, next].iter().all(|node| NODES.contains(node)),
+            Form::Route { at, destination, next } => {
+                NODES.contains(at) && DESTINATIONS.contains(destination) && NODES.contains(next)
+            }
             Form::Open { session, client, server } => {
                 SESSIONS.contains(session) && NODES.contains(client) && NODES.contains(server)
             }

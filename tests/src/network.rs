@@ -18,14 +18,25 @@ impl Node {
     }
 }
 
+/// The destination that stands for every one without a route of its own: a route of it is its node's default (#104).
+pub const DEFAULT: u64 = 0;
+
 pub fn route_form(at: u64, destination: u64, next: u64) -> String {
     format!("(route {at} {destination} {next})")
+}
+
+/// What the look-up of a route says, with the next node.
+#[derive(Clone, Copy, Debug, PartialEq)]
+pub enum LookUp {
+    Exact(u64),
+    Default(u64),
+    None,
 }
 
 #[derive(Clone, Default)]
 pub struct Network {
     pub nodes: BTreeMap<u64, Node>,
-    /// (at, destination) to next
+    /// (at, destination) to next; a node's default comes first among its routes, by its destination
     pub routes: BTreeMap<(u64, u64), u64>,
 }
 
@@ -36,6 +47,20 @@ impl Network {
 
     pub fn is_gateway(&self, node: u64) -> bool {
         self.nodes[&node].gateway
+    }
+
+    /// The route at a node to another: its own before the node's default.
+    pub fn look_up(&self, at: u64, to: u64) -> LookUp {
+        match (self.routes.get(&(at, to)), self.default_of(at)) {
+            (Some(&next), _) => LookUp::Exact(next),
+            (None, Some(next)) => LookUp::Default(next),
+            (None, None) => LookUp::None,
+        }
+    }
+
+    /// The next node of the node's default.
+    pub fn default_of(&self, at: u64) -> Option<u64> {
+        self.routes.get(&(at, DEFAULT)).copied()
     }
 
     /// The forms that give this network: nodes rising, then routes by at, then by destination.

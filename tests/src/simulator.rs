@@ -2,7 +2,7 @@
 
 use crate::calculus::{Association, Direction, Item, Outcome, Session};
 use crate::form::Form;
-use crate::network::{Network, Node};
+use crate::network::{Network, Node, DEFAULT};
 use std::collections::{BTreeMap, BTreeSet};
 
 /// From this last number a call that writes still has two numbers left.
@@ -49,6 +49,10 @@ impl Simulator {
     /// The lines that answer one line of input, given without its newline.
     pub fn call(&mut self, line: &[u8]) -> Vec<String> {
         self.answer(line).unwrap_or_else(|refusal| vec![format!("(no {})", refusal as u8)])
+    }
+
+    pub fn network(&self) -> &Network {
+        &self.network
     }
 
     pub fn in_use(&self, session: u64) -> bool {
@@ -114,7 +118,8 @@ impl Simulator {
 
     fn route(&mut self, at: u64, destination: u64, next: u64) -> Answer {
         refuse(self.opened_once, Refusal::Late)?;
-        refuse([at, destination, next].iter().any(|&node| !self.network.knows(node)), Refusal::Unknown)?;
+        let known = |node: u64| self.network.knows(node);
+        refuse(!known(at) || !known(next) || destination != DEFAULT && !known(destination), Refusal::Unknown)?;
         refuse(at == destination || at == next, Refusal::Same)?;
         refuse(self.network.routes.contains_key(&(at, destination)), Refusal::Double)?;
         self.network.routes.insert((at, destination), next);
@@ -132,7 +137,7 @@ impl Simulator {
         let first = session.discovery(client);
         self.sessions.insert(number, session);
         self.set_up_steps.insert(number, 0);
-        self.write(number, vec![first])
+        self.write(number, vec![first], "")
     }
 
     fn step(&mut self, number: u64, item_number: u64) -> Answer {
@@ -146,7 +151,8 @@ impl Simulator {
             *self.set_up_steps.entry(number).or_default() += 1;
         }
         match session.apply(item, &self.network) {
-            Outcome::Made(items) => self.write(number, items),
+            Outcome::Made(items) => self.write(number, items, ""),
+            Outcome::MadeByDefault(item) => self.write(number, vec![item], " default"),
             Outcome::Lost(loss) => one(format!("(lost {loss})")),
             Outcome::Denied => one("(denied)"),
             Outcome::Opened => one("(opened)"),
@@ -159,7 +165,7 @@ impl Simulator {
         let data = session.items.values().filter(|item| item.holds_data()).count();
         refuse(data >= MOST_DATA, Refusal::Full)?;
         self.refuse_spent(number)?;
-        self.write(number, vec![session.data(side, tag)])
+        self.write(number, vec![session.data(side, tag)], "")
     }
 
     fn close(&mut self, number: u64) -> Answer {
@@ -189,8 +195,8 @@ impl Simulator {
         refuse(self.spent(session), Refusal::Spent)
     }
 
-    /// Gives the items the session's next numbers, in order.
-    fn write(&mut self, number: u64, items: Vec<Item>) -> Answer {
+    /// Gives the items the session's next numbers, in order; the answer has them, then the note.
+    fn write(&mut self, number: u64, items: Vec<Item>, note: &str) -> Answer {
         let session = self.sessions.get_mut(&number).ok_or(Refusal::Idle)?;
         let last = self.last.entry(number).or_default();
         let mut made = String::from("(made");
@@ -199,7 +205,7 @@ impl Simulator {
             session.items.insert(*last, item);
             made += &format!(" {last}");
         }
-        one(made + ")")
+        one(made + note + ")")
     }
 }
 
