@@ -14,6 +14,15 @@ pub fn is_network(line: impl AsRef<[u8]>) -> bool {
     line.starts_with(b"(node ") || line.starts_with(b"(route ")
 }
 
+/// The numbers that a `(made ..)` answer carries, by a default route or not; of any other answer none.
+pub fn made(answer: &str) -> Vec<u64> {
+    let Some(parts) = answer.strip_prefix("(made ").and_then(|rest| rest.strip_suffix(')')) else {
+        return Vec::new();
+    };
+    let numbers = parts.strip_suffix(" default").unwrap_or(parts);
+    numbers.split(' ').map(|number| number.parse().expect("numbers are made")).collect()
+}
+
 /// The first line that differs: its index and what was expected and written there.
 pub fn difference(expected: &[u8], output: &[u8]) -> Option<(usize, String)> {
     let (expected, output) = (lines_of(expected), lines_of(output));

@@ -2,7 +2,7 @@
 //! ones in any order and mixed with anything. SEED and COUNT in the environment choose other random ones.
 
 use simulator_tests::calculus::{Item, CEILING};
-use simulator_tests::compare::difference_from_list;
+use simulator_tests::compare::{difference_from_list, made};
 use simulator_tests::form::{Form, NODES, SESSIONS};
 use simulator_tests::lists::{set_ups, List};
 use simulator_tests::network::Node;
@@ -49,8 +49,7 @@ impl Text {
                 *self.set_up_steps.entry(session).or_default() += 1;
             }
             Form::Step { session, .. } | Form::Send { session, .. } => {
-                let number = answer.strip_prefix("(made ").and_then(|rest| rest.strip_suffix(')')?.parse().ok());
-                self.data.extend(number.map(|number| (session, number)));
+                self.data.extend(made(answer).into_iter().map(|number| (session, number)));
             }
             _ => {}
         }

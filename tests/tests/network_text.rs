@@ -4,8 +4,8 @@
 use simulator_tests::compare::{check_output, check_output_of, difference, is_network};
 use simulator_tests::form::Form;
 use simulator_tests::lists::{input, list, LateNetwork};
-use simulator_tests::network::{route_form, Network, Node};
-use simulator_tests::random::{for_each_index, setting, Random};
+use simulator_tests::network::{route_form, Network, Node, DEFAULT};
+use simulator_tests::random::{check_met, for_each_index, setting, Random};
 use simulator_tests::simulator::Simulator;
 use simulator_tests::{lines, program};
 use std::collections::{BTreeMap, BTreeSet};
@@ -13,16 +13,25 @@ use std::collections::{BTreeMap, BTreeSet};
 const NET: &[u8] = b"(net)\n";
 
 /// Calls that are refused on every network.
-const REFUSED: [&str; 8] = [
+const REFUSED: [&str; 13] = [
     "(node 33 host (has) (needs))",
+    "(node 0 host (has) (needs))",
     "(node 1 gate (has 2 1) (needs))",
     "(node 1 gate (has) (needs 64))",
     "(node 1 gate (has) (needs)",
     "(route 33 1 2)",
     "(route 1 1 1)",
+    "(route 1 0 1)",
+    "(route 1 0 33)",
+    "(route 0 0 1)",
+    "(route 1 2 0)",
     "(net 1)",
     "",
 ];
+
+/// What the random networks have to meet.
+const KINDS: &str = "no route|exact routes alone|defaults alone|both|a default of each node|\
+    a default beside an exact route of the same next|a default beside one of another next";
 
 /// Asserts that these calls give the network's text, and that the same text, read by a fresh program, gives it again.
 fn round_trip(name: &str, network: &Network, calls: &[String]) {
@@ -33,9 +42,10 @@ fn round_trip(name: &str, network: &Network, calls: &[String]) {
     check_output_of(name, &[&text, NET].concat(), &[b"(ok)\n".repeat(forms.len()), text].concat());
 }
 
-/// The network of these nodes, with the routes that `next` gives for at and destination.
+/// The network of these nodes, with the routes that `next` gives for at and destination; that of a default is among them.
 fn with_routes(nodes: BTreeMap<u64, Node>, mut next: impl FnMut(u64, u64) -> Option<u64>) -> Network {
-    let pairs = nodes.keys().flat_map(|&at| nodes.keys().map(move |&destination| (at, destination)));
+    let destinations = || nodes.keys().copied().chain([DEFAULT]);
+    let pairs = nodes.keys().flat_map(|&at| destinations().map(move |destination| (at, destination)));
     let others = pairs.filter(|(at, destination)| at != destination);
     let routes = others.filter_map(|pair| Some((pair, next(pair.0, pair.1)?))).collect();
     Network { nodes, routes }
@@ -48,21 +58,22 @@ fn any_node(random: &mut Random, of_four: u64) -> Node {
     Node { gateway: random.one_in(2), has, needs }
 }
 
-/// A network of any size, from none to all of its credentials and routes.
+/// A network of any size, from none to all of its credentials, exact routes and defaults.
 fn any_network(random: &mut Random) -> Network {
     let mut numbers: Vec<u64> = (1..=32).collect();
     random.shuffle(&mut numbers);
     numbers.truncate(random.pick(&[1, 2, 3, 5, 8, 13, 21, 31, 32]));
     // of every four
-    let (credentials, routes) = (random.below(5), random.below(5));
+    let (credentials, routes, defaults) = (random.below(5), random.below(5), random.below(5));
     let nodes = numbers.iter().map(|&number| (number, any_node(random, credentials))).collect();
-    with_routes(nodes, |at, _| {
+    with_routes(nodes, |at, destination| {
         let others: Vec<u64> = numbers.iter().copied().filter(|&node| node != at).collect();
-        (random.below(4) < routes).then(|| random.pick(&others))
+        let of_four = if destination == DEFAULT { defaults } else { routes };
+        (random.below(4) < of_four && !others.is_empty()).then(|| random.pick(&others))
     })
 }
 
-/// The network whose text is the longest: every credential, every route, and no next hop of one digit.
+/// The network whose text is the longest: every credential, every route and default, and no next hop of one digit.
 fn fullest() -> Network {
     let all: BTreeSet<u64> = (0..64).collect();
     let node = |number| (number, Node { gateway: number % 2 == 0, has: all.clone(), needs: all.clone() });
@@ -104,7 +115,8 @@ fn refused_after(random: &mut Random, form: &str) -> String {
     }
 }
 
-/// Numbers rise as numbers and not as words, routes by at before destination, whatever the order of the calls.
+/// Numbers rise as numbers and not as words, routes by at before destination and a default first among its node's, whatever
+/// the order of the calls.
 #[test]
 fn the_order_is_the_networks_own() {
     let calls = [
@@ -117,10 +129,15 @@ fn the_order_is_the_networks_own() {
         "(route 10 9 9)",
         "(node 1 gate (has) (needs))",
         "(route 9 10 10)",
+        "(route 32 0 1)",
+        "(route 10 1 9)",
+        "(route 10 0 32)",
+        "(route 1 0 9)",
     ];
     let text = "(node 1 gate (has) (needs))\n(node 9 host (has 0 1 2 62 63) (needs 7))\n\
                 (node 10 gate (has 2 10) (needs))\n(node 32 host (has) (needs 0 63))\n\
-                (route 9 10 10)\n(route 9 32 10)\n(route 10 9 9)\n(route 10 32 32)\n(route 32 9 10)\n";
+                (route 1 0 9)\n(route 9 10 10)\n(route 9 32 10)\n(route 10 0 32)\n(route 10 1 9)\n(route 10 9 9)\n\
+                (route 10 32 32)\n(route 32 0 1)\n(route 32 9 10)\n";
     let answers = "(ok)\n".repeat(calls.len());
     check_output(&[&input(&calls), NET].concat(), (answers.clone() + text).as_bytes());
     check_output(&[text.as_bytes(), NET].concat(), (answers + text).as_bytes());
@@ -139,31 +156,54 @@ fn the_empty_network() {
 fn the_fullest_network() {
     let network = fullest();
     let text = input(&network.forms());
-    assert_eq!((network.nodes.len(), network.routes.len(), text.len()), (32, 992, 28_873));
+    // 31 exact routes and a default of each node
+    assert_eq!((network.nodes.len(), network.routes.len(), text.len()), (32, 32 * (31 + 1), 29_376));
     // within the 400 bytes of a line that is read
     assert_eq!(network.forms()[31].len(), 392);
     round_trip("in order", &network, &network.forms());
     let calls = in_any_order(&mut Random::new(setting("SEED", 8), 0), &network);
     round_trip("in any order", &network, &calls);
-    let answers = b"(ok)\n".repeat(32 + 992);
+    let answers = b"(ok)\n".repeat(network.forms().len());
     check_output(&[&text, &NET.repeat(20)[..]].concat(), &[answers, text.repeat(20)].concat());
 }
 
 #[test]
 fn random_networks_come_back() {
     let (seed, count) = (setting("SEED", 9), setting("COUNT", 200));
-    let bare = for_each_index(count, |index| {
+    let met = for_each_index(count, |index| {
         let mut random = Random::new(seed, index);
         let network = any_network(&mut random);
         let calls = in_any_order(&mut random, &network);
         round_trip(&format!("SEED={seed}, network {index}"), &network, &calls);
-        network.routes.is_empty()
+        kinds(&network)
     });
-    // of a few networks, all may have routes
-    assert!(count < 100 || bare.contains(&true), "no network without routes");
+    check_met(met.into_iter().flatten(), KINDS, count >= 100);
 }
 
-/// The network, and each that differs from it in one credential, one kind or one next hop.
+/// Which routes the network has.
+fn kinds(network: &Network) -> BTreeSet<String> {
+    let defaults: BTreeMap<u64, u64> =
+        network.nodes.keys().filter_map(|&at| Some((at, network.default_of(at)?))).collect();
+    let exact: Vec<_> = network.routes.iter().filter(|((_, destination), _)| *destination != DEFAULT).collect();
+    let mut kinds = BTreeSet::from([match (exact.is_empty(), defaults.is_empty()) {
+        (true, true) => "no route",
+        (false, true) => "exact routes alone",
+        (true, false) => "defaults alone",
+        (false, false) => "both",
+    }]);
+    if defaults.len() == network.nodes.len() {
+        kinds.insert("a default of each node");
+    }
+    for ((at, _), next) in exact {
+        kinds.extend(defaults.get(at).map(|default| match default == next {
+            true => "a default beside an exact route of the same next",
+            false => "a default beside one of another next",
+        }));
+    }
+    kinds.into_iter().map(String::from).collect()
+}
+
+/// The network, and each that differs from it in one credential, one kind or one next hop, of a default too.
 fn neighbours(network: &Network) -> Vec<Network> {
     let mut all = vec![network.clone()];
     let mut add = |change: &dyn Fn(&mut Network)| {
@@ -200,9 +240,11 @@ fn toggle(set: &mut BTreeSet<u64>, credential: u64) {
 fn different_networks_have_different_texts() {
     let mut random = Random::new(setting("SEED", 10), 0);
     let nodes = [2, 9, 31].map(|number| (number, any_node(&mut random, 2)));
-    let networks = neighbours(&with_routes(nodes.into(), |_, destination| Some(destination)));
-    // a kind and twice 64 credentials of each node, and another next hop of each route
-    assert_eq!(networks.len(), 1 + 3 * (1 + 2 * 64) + 6);
+    let default = |at: u64| if at == 9 { 31 } else { 9 };
+    let next = |at, destination| if destination == DEFAULT { default(at) } else { destination };
+    let networks = neighbours(&with_routes(nodes.into(), |at, destination| Some(next(at, destination))));
+    // a kind and twice 64 credentials of each node, and another next hop of each route and of each default
+    assert_eq!(networks.len(), 1 + 3 * (1 + 2 * 64) + 6 + 3);
     let texts = for_each_index(networks.len() as u64, |index| {
         // all are given by as many calls, so the answers before the text are the same
         program::run(&[&input(&networks[index as usize].forms()), NET].concat())

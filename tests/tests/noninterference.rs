@@ -1,7 +1,7 @@
 //! Demand 3 on the program: what a session is answered in a mix of sessions is what it is answered alone, and its
 //! numbers are 1, 2, 3 and so on. SEED and COUNT in the environment choose other lists.
 
-use simulator_tests::compare::is_network;
+use simulator_tests::compare::{is_network, made};
 use simulator_tests::form::Form;
 use simulator_tests::lists::{input, list, LateNetwork, List};
 use simulator_tests::program;
@@ -62,7 +62,6 @@ fn answers(calls: &[Vec<u8>], output: &[u8]) -> Vec<String> {
 }
 
 fn assert_numbers_in_order<'a>(answers: impl Iterator<Item = &'a String>, place: &str) {
-    let made = answers.filter_map(|answer| answer.strip_prefix("(made ")?.strip_suffix(')'));
-    let numbers: Vec<u64> = made.flat_map(|numbers| numbers.split(' ')).map(|number| number.parse().unwrap()).collect();
+    let numbers: Vec<u64> = answers.flat_map(|answer| made(answer)).collect();
     assert!(numbers.iter().copied().eq(1..=numbers.len() as u64), "{place}: {numbers:?}");
 }

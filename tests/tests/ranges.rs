@@ -26,7 +26,6 @@ fn nodes() {
         ("(node 9999999999 host (has) (needs))", "(no 2)"),
         ("(node 10000000001 host (has) (needs))", "(no 1)"),
         ("(route 0 1 1)", "(no 2)"),
-        ("(route 1 0 32)", "(no 2)"),
         ("(route 1 32 0)", "(no 2)"),
         ("(route 33 1 1)", "(no 2)"),
         ("(route 1 33 32)", "(no 2)"),
@@ -34,6 +33,30 @@ fn nodes() {
         ("(route 4294967297 32 32)", "(no 2)"),
         ("(route 1 32 32)", "(ok)"),
         ("(route 32 1 1)", "(ok)"),
+    ]);
+}
+
+/// Destination 0 is a default's, and the other two numbers stay in the range of nodes.
+#[test]
+fn defaults() {
+    on_network(&[
+        ("(route 0 0 1)", "(no 2)"),
+        ("(route 33 0 1)", "(no 2)"),
+        ("(route 256 0 1)", "(no 2)"),
+        ("(route 4294967297 0 32)", "(no 2)"),
+        ("(route 1 0 0)", "(no 2)"),
+        ("(route 1 0 33)", "(no 2)"),
+        ("(route 1 0 288)", "(no 2)"),
+        ("(route 1 0 4294967328)", "(no 2)"),
+        ("(route 0 0 0)", "(no 2)"),
+        // no other number is taken for 0
+        ("(route 1 64 32)", "(no 2)"),
+        ("(route 1 256 32)", "(no 2)"),
+        ("(route 1 4294967296 32)", "(no 2)"),
+        ("(route 1 8589934592 32)", "(no 2)"),
+        ("(route 1 10000000000 32)", "(no 1)"),
+        ("(route 1 0 32)", "(ok)"),
+        ("(route 32 0 1)", "(ok)"),
     ]);
 }
 
@@ -171,6 +194,8 @@ const NO_FORMS: &str = "| |(|)|()|( )|show|(show|show)|(show))|((show)|(show )|(
     (close -1)|(close 1.0)|(close 0x1)|(close 1a)|(close a)|(close (1))|(close1)|(close 1|close 1|(step 1)|(step 1 )|\
     (step 1 2 3)|(step 01 1)|(step 1 00000000001)|(step 99999999999 1)|(steps 1 1)|(send 1 0)|(send 1 0 1 1)|\
     (send 1 00 1)|(send 1 0 01)|(open 1 1)|(open 1 1 2 3)|(open 1  1 2)|(route 1 2)|(route 1 2 2 2)|(route 1 2 02)|\
+    (route 1 00 2)|(route 1 -0 2)|(route 1 +0 2)|(route 1  2)|(route 1 () 2)|(route 1 default 2)|(route 1 0 2 default)|\
+    (route 1 0)|(route 0 2)|(default 1 2)|(step 1 1 default)|(open 1 1 2 default)|(made 1 default)|\
     (route 1,2,2)|(node 9)|(node 9 host)|(node 9 host (has))|(node 9 host (needs))|(node 9 host (needs) (has))|\
     (node 9 host (has)(needs))|(node 9 host (has)  (needs))|(node 9 host(has) (needs))|(node 9 host (has ) (needs))|\
     (node 9 host (has) (needs ))|(node 9 host (has) (needs) )|(node 9 host (has) (needs) (needs))|\

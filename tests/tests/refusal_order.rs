@@ -48,6 +48,7 @@ fn node() {
     ]);
 }
 
+/// Exact routes: a default has its own test.
 #[test]
 fn route() {
     on_network(&[
@@ -66,6 +67,11 @@ fn route() {
         ("(route 1 1 1)", "(no 8)"),
         ("(route 1 2 3)", "(no 3)"),
         ("(route 1 2 2)", "(no 3)"),
+        // a default changes none of that
+        ("(route 1 0 3)", "(ok)"),
+        ("(route 1 9 3)", "(no 4)"),
+        ("(route 1 1 3)", "(no 8)"),
+        ("(route 1 2 3)", "(no 3)"),
         ("(open 1 1 2)", "(made 1)"),
         // 2 before 5, 5 before 4, 8 and 3
         ("(route 33 9 9)", "(no 2)"),
