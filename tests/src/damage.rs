@@ -15,7 +15,7 @@ pub fn long_form(length: usize) -> String {
 pub fn damaged(random: &mut Random, line: &str) -> Vec<u8> {
     let mut bytes = line.as_bytes().to_vec();
     let place = random.index(bytes.len());
-    match random.below(14) {
+    match random.below(15) {
         0 => bytes[place] = random.pick(b" ()0123456789abcdefghijklmnopqrstuvwxyz-+.,\t"),
         1 => drop(bytes.remove(place)),
         2 => bytes.insert(place, bytes[place]),
@@ -29,6 +29,7 @@ pub fn damaged(random: &mut Random, line: &str) -> Vec<u8> {
         10 => bytes[place] = 128 + random.below(128) as u8,
         11 => bytes = long_form(random.pick(&[399, 400, 401, 5000])).into_bytes(),
         12 => bytes = format!("{} 1)", &line[..line.len() - 1]).into_bytes(),
+        13 => bytes = format!("{} default)", &line[..line.len() - 1]).into_bytes(),
         _ => bytes.resize(random.pick(&[399, 400, 401, 5000]), b' '),
     }
     bytes

@@ -4,6 +4,7 @@
 pub mod calculus;
 pub mod compare;
 pub mod damage;
+pub mod defaults;
 pub mod form;
 pub mod lines;
 pub mod listing;

@@ -4,7 +4,7 @@
 use crate::calculus::CEILING;
 use crate::damage::damaged;
 use crate::form::SESSIONS;
-use crate::network::{route_form, Node};
+use crate::network::{route_form, Node, DEFAULT};
 use crate::random::Random;
 use crate::simulator::Simulator;
 use crate::topology::Topology;
@@ -91,7 +91,7 @@ impl Generator {
     }
 
     fn give_network(&mut self) {
-        for call in std::mem::take(&mut self.topology.calls) {
+        for call in self.topology.calls.clone() {
             if self.late == LateNetwork::Yes && self.random.one_in(30) {
                 // before the first node it writes nothing
                 self.call("(net)");
@@ -261,7 +261,12 @@ impl Generator {
     }
 
     fn network_call(&mut self) {
-        let call = if self.random.one_in(2) { self.any_node() } else { self.any_route() };
+        let call = match self.random.below(5) {
+            0..=1 => self.any_node(),
+            2..=3 => self.any_route(),
+            // before its place, or again
+            _ => self.topology.calls[self.random.index(self.topology.calls.len())].clone(),
+        };
         self.call(call);
     }
 
@@ -276,7 +281,9 @@ impl Generator {
             0 => 1 + self.random.below(32),
             _ => self.random.pick(&self.topology.nodes),
         };
-        route_form(node(), node(), node())
+        let (at, destination, next) = (node(), node(), node());
+        // one in three gives a default
+        route_form(at, self.random.pick(&[destination, destination, DEFAULT]), next)
     }
 
     /// A form with numbers from the edges of the ranges.
@@ -288,6 +295,7 @@ impl Generator {
             format!("(send {} {} {})", edge(), edge(), edge()),
             format!("(close {})", edge()),
             format!("(route {} {} {})", edge(), edge(), edge()),
+            format!("(route {} {DEFAULT} {})", edge(), edge()),
             format!("(node {} host (has {} {}) (needs {}))", edge(), edge(), edge(), edge()),
         ];
         let allowed = if self.late == LateNetwork::Yes { forms.len() } else { 4 };

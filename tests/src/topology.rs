@@ -1,8 +1,11 @@
 //! Random networks, as the node and route calls that give them.
 
-use crate::network::{route_form, Node};
+use crate::network::{route_form, Node, DEFAULT};
 use crate::random::Random;
-use std::collections::BTreeSet;
+use std::collections::{BTreeMap, BTreeSet};
+
+/// At, destination and next.
+pub type Route = (u64, u64, u64);
 
 pub struct Topology {
     pub nodes: Vec<u64>,
@@ -52,7 +55,8 @@ impl Topology {
         let nodes = some_nodes(random, size);
         let gateways = gateways(random, shape, size);
         let mut calls = node_calls(random, &nodes, &gateways);
-        calls.extend(route_calls(random, shape, &nodes));
+        let exact = exact_routes(random, shape, &nodes);
+        calls.extend(forms(&with_defaults(random, &nodes, exact)));
         if random.one_in(10) {
             // some routes come before their nodes and are refused
             random.shuffle(&mut calls);
@@ -70,10 +74,12 @@ impl Topology {
         let mut calls = node_calls(random, &nodes, &gateways);
         // to one destination in so many the way ends early, or leads into a circle
         let fault = random.pick(&[1_000_000, 1_000_000, 20, 5]);
+        let mut exact = Vec::new();
         for &destination in &nodes {
             let path = detour(random, &nodes, destination, fault);
-            calls.extend(routes_along(&path, destination));
+            exact.extend(routes_along(&path, destination));
         }
+        calls.extend(forms(&with_defaults(random, &nodes, exact)));
         Self::of(nodes, &gateways, calls)
     }
 
@@ -111,8 +117,49 @@ fn detour(random: &mut Random, nodes: &[u64], destination: u64, fault: u64) -> V
 }
 
 /// The routes to the destination from each node of the path to the next one.
-pub fn routes_along(path: &[u64], destination: u64) -> Vec<String> {
-    path.windows(2).map(|pair| route_form(pair[0], destination, pair[1])).collect()
+pub fn routes_along(path: &[u64], destination: u64) -> Vec<Route> {
+    path.windows(2).map(|pair| (pair[0], destination, pair[1])).collect()
+}
+
+pub fn forms(routes: &[Route]) -> Vec<String> {
+    routes.iter().map(|&(at, destination, next)| route_form(at, destination, next)).collect()
+}
+
+/// The exact routes as they are, or with defaults for some of them, or beside them.
+fn with_defaults(random: &mut Random, nodes: &[u64], exact: Vec<Route>) -> Vec<Route> {
+    let mut routes = match random.below(8) {
+        0..=2 => return exact,
+        3..=5 => with_uplinks(random, exact),
+        _ => with_stray_defaults(random, nodes, exact),
+    };
+    if random.one_in(2) {
+        // defaults come before exact routes of their node, and between them
+        random.shuffle(&mut routes);
+    }
+    routes
+}
+
+/// At most of the nodes, one next hop of its routes becomes its default, and only a few of those routes stay: the ways are the
+/// same.
+pub fn with_uplinks(random: &mut Random, exact: Vec<Route>) -> Vec<Route> {
+    let mut next_hops: BTreeMap<u64, Vec<u64>> = BTreeMap::new();
+    for &(at, _, next) in &exact {
+        next_hops.entry(at).or_default().push(next);
+    }
+    next_hops.retain(|_, _| !random.one_in(5));
+    let uplinks: BTreeMap<u64, u64> = next_hops.iter().map(|(&at, next)| (at, random.pick(next))).collect();
+    let kept = exact.into_iter().filter(|(at, _, next)| uplinks.get(at) != Some(next) || random.one_in(5));
+    kept.chain(uplinks.iter().map(|(&at, &next)| (at, DEFAULT, next))).collect()
+}
+
+/// Defaults that lead anywhere, so that some make circles; all, half or none of the exact routes stay.
+fn with_stray_defaults(random: &mut Random, nodes: &[u64], mut exact: Vec<Route>) -> Vec<Route> {
+    let of_two = random.pick(&[2, 1, 0]);
+    exact.retain(|_| random.below(2) < of_two);
+    // one node in so many has none
+    let without = random.pick(&[3, 10]);
+    let at: Vec<u64> = nodes.iter().copied().filter(|_| !random.one_in(without)).collect();
+    exact.into_iter().chain(at.into_iter().map(|at| (at, DEFAULT, random.pick(nodes)))).collect()
 }
 
 /// Whether each place is a gateway; the first and the last are hosts.
@@ -140,11 +187,11 @@ fn node_calls(random: &mut Random, nodes: &[u64], gateways: &[bool]) -> Vec<Stri
     nodes.iter().zip(gateways).map(call).collect()
 }
 
-fn route_calls(random: &mut Random, shape: Shape, nodes: &[u64]) -> Vec<String> {
+fn exact_routes(random: &mut Random, shape: Shape, nodes: &[u64]) -> Vec<Route> {
     let parents = parents(random, shape, nodes.len());
     // one route in so many is missing or leads anywhere
     let fault = random.pick(&[1_000_000, 1_000_000, 50, 10]);
-    let mut calls = Vec::new();
+    let mut routes = Vec::new();
     for at in 0..nodes.len() {
         for destination in (0..nodes.len()).filter(|&destination| destination != at) {
             let mut next = next_in_tree(&parents, at, destination);
@@ -155,10 +202,10 @@ fn route_calls(random: &mut Random, shape: Shape, nodes: &[u64]) -> Vec<String> 
             if astray {
                 next = random.index(nodes.len());
             }
-            calls.push(route_form(nodes[at], nodes[destination], nodes[next]));
+            routes.push((nodes[at], nodes[destination], nodes[next]));
         }
     }
-    calls
+    routes
 }
 
 /// The place above each place but the first, in a tree.

@@ -3,13 +3,14 @@
 
 use simulator_tests::calculus::{Item, CEILING};
 use simulator_tests::compare::{difference_from_list, made};
+use simulator_tests::defaults;
 use simulator_tests::form::{Form, NODES, SESSIONS};
 use simulator_tests::lists::{set_ups, List};
 use simulator_tests::network::Node;
 use simulator_tests::program;
-use simulator_tests::random::{check_met, for_each_index, setting};
+use simulator_tests::random::{check_met, for_each_index, setting, Random};
 use simulator_tests::simulator::Simulator;
-use simulator_tests::topology::routes_along;
+use simulator_tests::topology::{forms, routes_along, with_uplinks, Route};
 use std::collections::{BTreeMap, BTreeSet};
 
 /// What the random set-ups have to meet: each end that a set-up has, with whose packet is lost or who denies; what comes between
@@ -226,14 +227,23 @@ fn kind(item: &Item) -> &'static str {
 }
 
 /// Eight sessions over this network of 32 nodes, in turn, each to its end; asserts that they all have this many steps and what
-/// their last one answers.
-fn check_longest(gateways: &[u64], ends: (u64, u64), routes: Vec<String>, steps: u64, last: &str) {
+/// their last one answers. So too where defaults lead the same ways.
+fn check_longest(gateways: &[u64], ends: (u64, u64), routes: Vec<Route>, steps: u64, last: &str) {
+    let mut random = Random::new(setting("SEED", 13), 0);
+    let with_defaults = with_uplinks(&mut random, routes.clone());
+    assert!(with_defaults.len() < routes.len(), "no default stands for two routes");
+    for routes in [routes, with_defaults] {
+        check_longest_by(gateways, ends, &routes, steps, last);
+    }
+}
+
+fn check_longest_by(gateways: &[u64], ends: (u64, u64), routes: &[Route], steps: u64, last: &str) {
     let mut watch = Watch::default();
     for node in NODES {
         let gateway = gateways.contains(&node);
         watch.call(Node { gateway, has: BTreeSet::new(), needs: BTreeSet::new() }.form(node));
     }
-    for route in routes {
+    for route in forms(routes) {
         assert_eq!(watch.call(&route), "(ok)", "{route}");
     }
     for session in SESSIONS {
@@ -248,7 +258,7 @@ fn check_longest(gateways: &[u64], ends: (u64, u64), routes: Vec<String>, steps:
 }
 
 /// The routes of a way to the destination through all the other nodes, these first.
-fn longest_way(first: &[u64], destination: u64) -> Vec<String> {
+fn longest_way(first: &[u64], destination: u64) -> Vec<Route> {
     let others = NODES.filter(|node| !first.contains(node) && *node != destination);
     let path: Vec<u64> = first.iter().copied().chain(others).chain([destination]).collect();
     routes_along(&path, destination)
@@ -288,12 +298,14 @@ fn random_set_ups_keep_the_ceiling() {
     let longest = lengths.into_iter().max().unwrap_or(0);
     println!("the longest has {longest} steps");
     assert!(!enough || longest >= 400, "the longest has only {longest} steps");
-    check_met(met.into_iter().flatten(), KINDS, enough);
+    check_met(met.into_iter().flatten(), &[KINDS, defaults::STEPS].join("|"), enough);
 }
 
 fn watch(seed: u64, index: u64) -> (u64, BTreeSet<String>) {
     let mut watch = Watch::default();
-    for call in set_ups(seed, index).calls {
+    let calls = set_ups(seed, index).calls;
+    watch.met.extend(defaults::met(&calls));
+    for call in calls {
         watch.call(call);
     }
     watch.end(&format!("SEED={seed}, list {index}"))

@@ -2,23 +2,28 @@
 //! numbers are 1, 2, 3 and so on. SEED and COUNT in the environment choose other lists.
 
 use simulator_tests::compare::{is_network, made};
+use simulator_tests::defaults;
 use simulator_tests::form::Form;
 use simulator_tests::lists::{input, list, LateNetwork, List};
 use simulator_tests::program;
-use simulator_tests::random::{for_each_index, setting};
+use simulator_tests::random::{check_met, for_each_index, setting};
+use std::collections::BTreeSet;
 
 const CALLS: usize = 500;
 
 #[test]
 fn a_session_is_answered_as_if_alone() {
     let (seed, count) = (setting("SEED", 3), setting("COUNT", 300));
-    let compared: usize = for_each_index(count, |index| compare(seed, index)).iter().sum();
+    let (shared, met): (Vec<usize>, Vec<_>) = for_each_index(count, |index| compare(seed, index)).into_iter().unzip();
+    let compared: usize = shared.iter().sum();
     // of a few lists, all may have one session
     assert!(count < 100 || compared as u64 > 50 * count, "few calls of sessions that share a list: {compared}");
+    check_met(met.into_iter().flatten(), defaults::STEPS, count >= 300);
 }
 
-/// Compares each session of one list; gives how many calls were of sessions that shared it with others.
-fn compare(seed: u64, index: u64) -> usize {
+/// Compares each session of one list; gives how many calls were of sessions that shared it with others, and what they met of
+/// defaults.
+fn compare(seed: u64, index: u64) -> (usize, BTreeSet<String>) {
     let list = list(seed, index, CALLS, LateNetwork::No);
     let mixed = answers(&list.calls, &program::run(&list.input()));
     let sessions: Vec<Vec<usize>> = (1..=8).map(|session| own(&list, session)).filter(|own| !own.is_empty()).collect();
@@ -33,9 +38,9 @@ fn compare(seed: u64, index: u64) -> usize {
         assert_numbers_in_order(own.iter().map(|&call| &mixed[call]), &format!("seed {seed}, list {index}"));
     }
     if sessions.len() > 1 {
-        sessions.concat().len()
+        (sessions.concat().len(), defaults::met(&list.calls))
     } else {
-        0
+        Default::default()
     }
 }
 

@@ -2,6 +2,7 @@
 //! program's text alone. SEED and COUNT in the environment choose others.
 
 use simulator_tests::compare::difference_from_list;
+use simulator_tests::defaults;
 use simulator_tests::lists::{list, LateNetwork};
 use simulator_tests::program;
 use simulator_tests::random::{check_met, for_each_index, setting};
@@ -13,20 +14,20 @@ const CALLS: usize = 400;
 /// Every kind of answer, and of neighbours in a show, that lists of this length meet. Refusal 10 needs a session at its
 /// last number and is met in the test of that; refusal 0 is tested by a program of its own, since this one always lends
 /// enough output.
-const KINDS: &str = "(ok)|(made _)|(made _ _)|(lost 1)|(lost 2)|(lost 3)|(lost 4)|(lost 5)|(lost 6)|(denied)|(opened)|\
-    (delivered _)|(closed)|(assoc _ in _ _ _)|(assoc _ out _ _ _)|(end)|(node _ host)|(node _ gate)|(route _ _ _)|\
-    nothing|(no 1)|(no 2)|(no 3)|(no 4)|(no 5)|(no 6)|(no 7)|(no 8)|(no 9)|(no 11)|(no 12)|(no 13)|\
-    another node|another node, lower peer|another node, lower as text|in then out|in then out, lower peer|\
+const KINDS: &str = "(ok)|(made _)|(made _ default)|(made _ _)|(lost 1)|(lost 2)|(lost 3)|(lost 4)|(lost 5)|(lost 6)|\
+    (denied)|(opened)|(delivered _)|(closed)|(assoc _ in _ _ _)|(assoc _ out _ _ _)|(end)|(node _ host)|(node _ gate)|\
+    (route _ 0 _)|(route _ _ _)|nothing|(no 1)|(no 2)|(no 3)|(no 4)|(no 5)|(no 6)|(no 7)|(no 8)|(no 9)|(no 11)|(no 12)|\
+    (no 13)|another node|another node, lower peer|another node, lower as text|in then out|in then out, lower peer|\
     another peer|another peer, lower as text";
 
 #[test]
 fn program_answers_as_the_second_implementation() {
     let (seed, count) = (setting("SEED", 1), setting("COUNT", 2000));
     let met = for_each_index(count, |index| compare(seed, index)).into_iter().flatten();
-    check_met(met, KINDS, count >= 500);
+    check_met(met, &[KINDS, defaults::CALLS, defaults::STEPS].join("|"), count >= 500);
 }
 
-/// Compares one list; gives the kinds of the program's answers and of neighbours in its shows.
+/// Compares one list; gives the kinds of the program's answers and of neighbours in its shows, and what it met of defaults.
 fn compare(seed: u64, index: u64) -> BTreeSet<String> {
     let list = list(seed, index, CALLS, LateNetwork::Yes);
     let mut input = list.input();
@@ -44,6 +45,7 @@ fn compare(seed: u64, index: u64) -> BTreeSet<String> {
     let text = String::from_utf8_lossy(&output);
     let mut kinds: BTreeSet<String> = text.lines().map(kind).collect();
     kinds.extend(neighbours(&text, &place));
+    kinds.extend(defaults::met(&list.calls));
     if list.answers.iter().any(Vec::is_empty) {
         // the text of the empty network, which the output does not show
         kinds.insert("nothing".to_string());
@@ -51,10 +53,14 @@ fn compare(seed: u64, index: u64) -> BTreeSet<String> {
     kinds
 }
 
-/// The answer without its numbers, but for those that tell refusals and losses apart, and without a node's credentials.
+/// The answer without its numbers, but for those that tell refusals, losses and defaults apart, and without a node's
+/// credentials.
 fn kind(line: &str) -> String {
     if line.starts_with("(no ") || line.starts_with("(lost ") {
         return line.to_string();
+    }
+    if matches!(line.split(' ').collect::<Vec<_>>()[..], ["(route", _, "0", _]) {
+        return "(route _ 0 _)".to_string();
     }
     let part =
         |part: &str| if part.starts_with(|first: char| first.is_ascii_digit()) { "_".into() } else { part.to_string() };
