@@ -12,6 +12,7 @@ pub mod lists;
 pub mod network;
 pub mod program;
 pub mod random;
+pub mod recorder;
 pub mod script;
 pub mod simulator;
 pub mod small;

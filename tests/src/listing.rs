@@ -19,6 +19,11 @@ pub fn moves(session: u64, items: RangeInclusive<u64>) -> Listing {
     items.map(|item| (format!("(step {session} {item})"), format!("(made {})", item + 1))).collect()
 }
 
+/// Such steps on the wire, each moved by a default route.
+pub fn default_moves(session: u64, items: RangeInclusive<u64>) -> Listing {
+    items.map(|item| (format!("(step {session} {item})"), format!("(made {} default)", item + 1))).collect()
+}
+
 /// A show of these associations.
 pub fn show(associations: &[impl AsRef<str>]) -> Listing {
     let lines: String = associations.iter().map(|line| format!("(assoc {})\n", line.as_ref())).collect();

@@ -1,68 +1,37 @@
 //! Set-up through a chain of gateways, and data both ways after it, on both implementations.
 
 use simulator_tests::compare::check;
-use simulator_tests::listing::Listing;
-use simulator_tests::simulator::Simulator;
-use std::ops::RangeInclusive;
+use simulator_tests::recorder::{Recorder, NONE};
 
-const NONE: RangeInclusive<u64> = 0..=0;
-
-/// Calls and answers so far, each also run on the second implementation, whose pending items are followed.
-#[derive(Default)]
-struct Recorder {
-    simulator: Simulator,
-    listing: Listing,
-}
-
-impl Recorder {
-    fn call(&mut self, call: String) -> String {
-        let answer = self.simulator.call(call.as_bytes()).join("\n");
-        self.listing.push((call, answer.clone()));
-        answer
+/// Nodes 1 to `last` in a row, hosts at both ends and gateways between, with every route.
+fn chain(last: u64) -> Recorder {
+    let mut recorder = Recorder::default();
+    for node in 1..=last {
+        let kind = if node == 1 || node == last { "host" } else { "gate" };
+        recorder.call(format!("(node {node} {kind} (has) (needs))"));
     }
-
-    /// Nodes 1 to `last` in a row, hosts at both ends and gateways between, with every route.
-    fn chain(&mut self, last: u64) {
-        for node in 1..=last {
-            let kind = if node == 1 || node == last { "host" } else { "gate" };
-            self.call(format!("(node {node} {kind} (has) (needs))"));
-        }
-        for (at, destination) in (1..=last).flat_map(|at| (1..=last).map(move |destination| (at, destination))) {
-            if at != destination {
-                let next = if destination > at { at + 1 } else { at - 1 };
-                self.call(format!("(route {at} {destination} {next})"));
-            }
+    for (at, destination) in (1..=last).flat_map(|at| (1..=last).map(move |destination| (at, destination))) {
+        if at != destination {
+            let next = if destination > at { at + 1 } else { at - 1 };
+            recorder.call(format!("(route {at} {destination} {next})"));
         }
     }
-
-    /// Steps the session's lowest item that is no wait, but none of those kept, until there is none; the last answer.
-    fn drive(&mut self, session: u64, kept: RangeInclusive<u64>) -> String {
-        let mut answer = String::new();
-        while let Some(item) = self.simulator.pending(session).0.into_iter().find(|item| !kept.contains(item)) {
-            answer = self.call(format!("(step {session} {item})"));
-        }
-        answer
-    }
-
-    fn drive_all(&mut self) -> String {
-        self.drive(1, NONE)
-    }
+    recorder
 }
 
 #[test]
 fn up_to_seven_gateways_open_and_deliver() {
     for gateways in 0..=7 {
-        let mut recorder = Recorder::default();
         let last = gateways + 2;
-        recorder.chain(last);
+        let mut recorder = chain(last);
         recorder.call(format!("(open 1 1 {last})"));
-        assert_eq!(recorder.drive_all(), "(opened)", "{gateways} gateways");
-        recorder.call("(send 1 0 70)".to_string());
-        assert_eq!(recorder.drive_all(), "(delivered 70)", "{gateways} gateways");
-        recorder.call("(send 1 1 71)".to_string());
-        assert_eq!(recorder.drive_all(), "(delivered 71)", "{gateways} gateways");
+        assert_eq!(recorder.drive(1, NONE), "(opened)", "{gateways} gateways");
+        recorder.call("(send 1 0 70)");
+        assert_eq!(recorder.drive(1, NONE), "(delivered 70)", "{gateways} gateways");
+        recorder.call("(send 1 1 71)");
+        assert_eq!(recorder.drive(1, NONE), "(delivered 71)", "{gateways} gateways");
         // in and out at either end of each tunnel
-        let shown = recorder.call("(show)".to_string());
+        let shown = recorder.call("(show)");
         assert_eq!(shown.lines().count() as u64, 4 * (gateways + 1) + 1, "{gateways} gateways");
         check(&recorder.listing);
     }
@@ -71,15 +40,14 @@ fn up_to_seven_gateways_open_and_deliver() {
 /// The ninth establishment is not begun; a close lets the next set-up begin again from the first.
 #[test]
 fn eight_gateways_are_too_many() {
-    let mut recorder = Recorder::default();
-    recorder.chain(10);
+    let mut recorder = chain(10);
     for _ in 0..2 {
-        recorder.call("(open 1 1 10)".to_string());
-        assert_eq!(recorder.drive_all(), "(lost 6)");
-        recorder.call("(close 1)".to_string());
+        recorder.call("(open 1 1 10)");
+        assert_eq!(recorder.drive(1, NONE), "(lost 6)");
+        recorder.call("(close 1)");
     }
-    recorder.call("(open 1 10 1)".to_string());
-    assert_eq!(recorder.drive_all(), "(lost 6)");
+    recorder.call("(open 1 10 1)");
+    assert_eq!(recorder.drive(1, NONE), "(lost 6)");
     check(&recorder.listing);
 }
 
@@ -87,8 +55,7 @@ fn eight_gateways_are_too_many() {
 /// set-up's own.
 #[test]
 fn eight_sessions_at_their_fullest() {
-    let mut recorder = Recorder::default();
-    recorder.chain(9);
+    let mut recorder = chain(9);
     // items 2 to 13 are the data
     let data = 2..=13;
     for session in 1..=8 {
@@ -99,11 +66,11 @@ fn eight_sessions_at_their_fullest() {
         assert_eq!(recorder.drive(session, data.clone()), "(opened)");
         assert_eq!(recorder.call(format!("(send {session} 0 1)")), "(no 13)");
     }
-    let shown = recorder.call("(show)".to_string());
+    let shown = recorder.call("(show)");
     assert_eq!(shown.lines().filter(|line| line.ends_with(" 8)")).count(), 32);
     for session in 1..=8 {
         assert_eq!(recorder.drive(session, NONE), "(delivered 13)");
     }
-    recorder.call("(show)".to_string());
+    recorder.call("(show)");
     check(&recorder.listing);
 }
