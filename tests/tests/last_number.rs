@@ -8,7 +8,7 @@ use simulator_tests::program;
 use simulator_tests::simulator::Simulator;
 
 const NETWORK: &str = "(node 1 host (has) (needs))\n(node 2 host (has) (needs))\n(node 3 gate (has) (needs))\n\
-                       (route 1 2 2)\n(route 2 1 1)\n";
+                       (route 1 2 2)\n(route 2 0 1)\n";
 
 /// Drives session 1, closed, to this last number, a multiple of six: an open, three steps and a close take six numbers.
 fn drive_to(last: u64) -> String {
@@ -136,6 +136,27 @@ fn send_to_999999() {
     ]);
     let received = [sends(999_986..=999_986), steps_below(1, 999_987..=999_990)].concat();
     check_after(999_984, &[begin, received, sends(999_991..=999_999), end, close_of_spent()].concat());
+}
+
+/// At 999,998 a default moves a packet, and no longer once the numbers are spent.
+#[test]
+fn default_to_999999() {
+    let calls = exchanges(&[
+        ("(open 1 1 2)", "(made 999985)"),
+        ("(step 1 999985)", "(made 999986)"),
+        ("(step 1 999986)", "(made 999987 999988)"),
+        ("(step 1 999988)", "(made 999989 999990)"),
+        ("(step 1 999989)", "(made 999991)"),
+        ("(send 1 1 7)", "(made 999992)"),
+        ("(step 1 999992)", "(made 999993)"),
+    ]);
+    let end = exchanges(&[
+        ("(step 1 999991)", "(made 999999 default)"),
+        ("(step 1 999993)", "(no 10)"),
+        ("(step 1 999999)", "(no 10)"),
+        ("(step 1 999991)", "(no 11)"),
+    ]);
+    check_after(999_984, &[calls, sends(999_994..=999_998), end, close_of_spent()].concat());
 }
 
 /// At 999,998 an open is accepted, and the session it opens can only close.
