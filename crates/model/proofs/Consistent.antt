@@ -1,19 +1,20 @@
 -- Node and route calls keep a network consistent. Assumes nothing.
-use mathlib.Core.Path.{_≡_, refl, sym, _∙_}
-use mathlib.Core.Bool.{Bool, true, false, cond, _||_}
+use mathlib.Core.Path.{_≡_, refl, sym, subst, _∙_}
+use mathlib.Core.Bool.{Bool, true, false, cond, _&&_, _||_}
 use mathlib.Core.List.{List}
 use Prim.Native.Nat.{ℕ, _-_, _<_}
 use native.Mathlib.Decide.{ℕ-discrete}
 use native.Mathlib.Omega.{arith}
-use borrow.Author.Tests.{ltb-true}
+use borrow.Author.Tests.{ltb-true, eqb-true, eq-eqb}
+use lib.Dec.{ltb, eqb}
 use lib.ListN.{length, getD, set, length-set, length-replicate, getD-replicate}
 use lib.Seq.{getD-set-same, getD-set-other}
 use Rattle.calculus.specs.Number.{isNode}
-use Rattle.calculus.proofs.Tests.{never, within-bounds}
+use Rattle.calculus.proofs.Tests.{never, either, both, not-so, within-bounds}
 use Rattle.calculus.specs.declared.network.Kind.{Kind}
 use Rattle.calculus.specs.declared.network.Network.{Network}
 use Rattle.calculus.specs.declared.network.Node as declared
-use Rattle.model.specs.Network.{noNode, nodeAt, given, isDefault, routePlace, routeTo, isRouted}
+use Rattle.model.specs.Network.{noNode, nodeAt, given, isDefault, routePlace, routeTo}
 use Rattle.model.specs.State.{fresh}
 use Rattle.model.specs.Requests.{withNode, withRoute, nodesGiven, leadsBack}
 use Rattle.model.specs.GivenBack.{IsPlace, Consistent}
@@ -23,15 +24,16 @@ use Rattle.model.proofs.Nodes.{Node, Destination, given-node, nodes-giv
 place-below : (a b : ℕ) → Node a → Destination b → routePlace a b < 1056
 place-below a b h g = omega (arith, within-bounds 1 32 a h, within-bounds 0 32 b g)
 
+pub route-fresh : (a b : ℕ) → Node a → Destination b → routeTo (fresh .network) a b ≡ 0
+route-fresh a b i j = getD-replicate {A = ℕ} 1056 (routePlace a b) 0 0 (place-below a b i j)
+
 pub consistent-fresh : Consistent (fresh .network)
 consistent-fresh =
     record {
       nodes = length-replicate 32 noNode;
       routes = length-replicate {A = ℕ} 1056 0;
       places = all-replicate IsPlace 32 noNode empty-place;
-      routed = λ a b i j e.
-          let none = getD-replicate {A = ℕ} 1056 (routePlace a b) 0 0 (place-below a b i j) in
-          absurd (omega (arith, ltb-true 0 (routeTo (fresh .network) a b) e));
+      routed = λ a b i j e. absurd (omega (arith, route-fresh a b i j, ltb-true 0 (routeTo (fresh .network) a b) e));
     }
 
 -- ---- a node more
@@ -80,6 +82,24 @@ same-place a b c d h g i j e =
     let x = within-bounds 0 32 d j in
     (omega arith, omega arith)
 
+module _ (n : Network) (h : Consistent n) (a b next : ℕ) (at : Node a) (for : Destination b) where
+  pub route-set : (c d : ℕ) → Node c → Destination d → routeTo (withRoute n a b next) c d ≡ cond (eqb c a && eqb d b) next (routeTo n c d)
+  route-set c d i j = go (ℕ-discrete (routePlace c d) (routePlace a b))
+    where
+      go : Dec (routePlace c d ≡ routePlace a b) → routeTo (withRoute n a b next) c d ≡ cond (eqb c a && eqb d b) next (routeTo n c d)
+      go (yes w) =
+          let s = same-place c d a b i j at for w in
+          let same = getD-set-same (n .routes) (routePlace a b) next 0 (omega (arith, place-below a b at for, h .routes)) in
+          rw (w, same, eq-eqb c a (s .0), eq-eqb d b (s .1))
+      go (no w) =
+          let apart = not-so (eqb c a && eqb d b)
+          (λ e. let z = both (eqb c a) (eqb d b) e in w (rw (eqb-true c a (z .0), eqb-true d b (z .1)))) in
+          rw apart (getD-set-other (n .routes) (routePlace a b) (routePlace c d) next 0 w)
+
+-- the next node m of a route from c for d: if there is one, refusals 4 and 8 let it pass
+abbrev Passes : Network → ℕ → ℕ → ℕ → Type 0
+Passes n c d m = ltb 0 m ≡ true → (nodesGiven n c d m ≡ true) × (leadsBack c d m ≡ false)
+
 pub consistent-route : (n : Network) (a b next : ℕ) → nodesGiven n a b next ≡ true → leadsBack a b next ≡ false → Consistent n
     → Consistent (withRoute n a b next)
 unfolding nodeAt
@@ -88,7 +108,7 @@ consistent-route n a b next e f h =
       nodes = h .nodes;
       routes = length-set (n .routes) (routePlace a b) next ∙ h .routes;
       places = h .places;
-      routed = λ c d i j. go c d i j (ℕ-discrete (routePlace c d) (routePlace a b));
+      routed = λ c d i j. subst (Passes n c d) (sym (route-set n h a b next at for c d i j)) (passes c d i j);
     }
   where
     at : Node a
@@ -97,15 +117,8 @@ consistent-route n a b next e f h =
     for : Destination b
     for = given-destination n b (nodes-given n a b next e .for)
 
-    m : Network
-    m = withRoute n a b next
-
-    go : (c d : ℕ) → Node c → Destination d → Dec (routePlace c d ≡ routePlace a b) → isRouted m c d ≡ true
-        → (nodesGiven n c d (routeTo m c d) ≡ true) × (leadsBack c d (routeTo m c d) ≡ false)
-    go c d i j (yes w) k =
-        let s = same-place c d a b i j at for w in
-        let same = getD-set-same (n .routes) (routePlace a b) next 0 (omega (arith, place-below a b at for, h .routes)) in
-        rw (s .0, s .1, same) (e, f)
-    go c d i j (no w) k =
-        let other = getD-set-other (n .routes) (routePlace a b) (routePlace c d) next 0 w in
-        rw other (h .routed c d i j (rw other at k))
+    passes : (c d : ℕ) → Node c → Destination d → Passes n c d (cond (eqb c a && eqb d b) next (routeTo n c d))
+    passes c d i j =
+        either (Passes n c d) (eqb c a && eqb d b)
+        (λ w k. let z = both (eqb c a) (eqb d b) w in rw (eqb-true c a (z .0), eqb-true d b (z .1)) (e, f))
+        (λ w. h .routed c d i j)

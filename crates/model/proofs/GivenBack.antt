@@ -3,16 +3,17 @@ use mathlib.Core.Path.{_≡_, refl, sym, ap, _∙_}
 use mathlib.Core.Bool.{cond}
 use mathlib.Core.List.{List, map, map-map}
 use Prim.Native.Nat.{ℕ, _+_, _/_, _%_, _≤_, _<_}
+use native.Mathlib.Nat.{zero-add}
 use native.Mathlib.Omega.{arith}
-use lib.Dec.{ltb}
-use borrow.Author.Tests.{ltb-false}
+use lib.Dec.{ltb, eqb}
 use lib.ListN.{length, getD, length-append}
 use Rattle.calculus.specs.Table.{entriesFrom}
-use Rattle.calculus.proofs.Tests.{Way, is, isnt, way, within-bounds}
+use Rattle.calculus.proofs.Tests.{neither, within-bounds}
 use Rattle.calculus.specs.declared.network.Network.{Network}
 use Rattle.calculus.specs.declared.state.State.{State}
-use Rattle.forms.specs.Bytes.{joined}
-use Rattle.forms.specs.Text.{net, text, formLine}
+use Rattle.forms.specs.Bytes.{decimal, digitsOf, joined}
+use Rattle.forms.specs.Text.{route, net, text, formLine}
+use Rattle.forms.specs.Request.{nodeOf}
 use Rattle.forms.specs.Line.{lines}
 use Rattle.forms.proofs.Decimal.{width-most}
 use Rattle.forms.proofs.FormLines.{lines-forms}
@@ -20,18 +21,39 @@ use Rattle.forms.proofs.Joined.{lines-append}
 use Rattle.forms.proofs.LineWidths.{node-width, route-width}
 use Rattle.forms.proofs.ReadAgain.{net-read}
 use Rattle.model.specs.Lists.{All}
+use Rattle.model.specs.Network.{noNode}
 use Rattle.model.specs.NetworkText.{nodeForm, routeForm, networkForms, networkLines, networkText}
 use Rattle.model.specs.State.{fresh}
 use Rattle.model.specs.Calls.{reported, short, answered, requested, replies, roomyCall}
 use Rattle.model.specs.Texts.{afterLines}
 use Rattle.model.specs.GivenBack.{IsPlace, Consistent, freshWith, AnsweredOk, GivenBack}
-use Rattle.model.proofs.Lists.{all-of-getD}
-use Rattle.model.proofs.Tables.{only-width, entries-width}
-use Rattle.model.proofs.Nodes.{given-node, nodes-given}
+use Rattle.model.proofs.Lists.{all-get}
+use Rattle.model.proofs.Tables.{total, only-width, entries-width}
+use Rattle.model.proofs.Nodes.{given-node, nodes-given, empty-place}
 use Rattle.model.proofs.Reached.{reached}
 use Rattle.model.proofs.Ordered.{text-ordered}
 use Rattle.model.proofs.Gives.{lineOf, gives-after, gives-ok}
 use Rattle.model.proofs.Fills.{place-routed, text-gives}
+
+-- ---- the longest lines
+
+-- of node a
+abbrev nodeMost : ℕ → ℕ
+nodeMost a = 391 + length (decimal a)
+
+-- of the route at place p, its next node having two digits: there is none from a node to itself
+abbrev routeMost : ℕ → ℕ
+routeMost p = cond (eqb (p / 33 + 1) (p % 33)) 0 (13 + (length (decimal (p / 33 + 1)) + length (decimal (p % 33))))
+
+nodes-most : total nodeMost 1 32 ≡ 12567
+unfolding total decimal digitsOf
+nodes-most = refl
+
+routes-most : total routeMost 0 1056 ≡ 16809
+unfolding total decimal digitsOf
+routes-most = refl
+
+-- ---- the text of a consistent network
 
 module _ (n : Network) (h : Consistent n) where
   text-calls : map roomyCall (lines (networkText n)) ≡ map lineOf (networkForms n)
@@ -45,45 +67,33 @@ module _ (n : Network) (h : Consistent n) where
 
   -- ---- how long it is
 
-  -- a stored next node is a node, or 0
-  next-most : (p : ℕ) → p < 1056 → getD (n .routes) p 0 ≤ 32
-  next-most p w = go (way (ltb 0 next))
-    where
-      next : ℕ
-      next = getD (n .routes) p 0
+  node-most : (j : ℕ) → length (joined (map formLine (nodeForm (1 + j) (getD (n .nodes) j noNode)))) ≤ nodeMost (1 + j)
+  node-most j =
+      let x = getD (n .nodes) j noNode in
+      let g = all-get IsPlace (n .nodes) j noNode (h .places) empty-place in
+      only-width formLine (nodeMost (1 + j)) (x .given) (nodeOf (1 + j) (x .kind) (x .has) (x .needs))
+      (λ e. simp length-append (omega (arith, node-width (1 + j) (x .kind) (x .has) (x .needs) (g .has) (g .needs))))
 
-      go : Way (ltb 0 next) → next ≤ 32
-      go (isnt e) = omega (arith, ltb-false 0 next e)
-      go (is e) =
-          let r = place-routed n h p next w refl e in
-          within-bounds 1 32 next (given-node n next (nodes-given n (p / 33 + 1) (p % 33) next (r .0) .by)) .1
+  route-most : (p : ℕ) → p < 1056 → length (joined (map formLine (routeForm p (getD (n .routes) p 0)))) ≤ routeMost p
+  route-most p w =
+      let a = p / 33 + 1 in
+      let b = p % 33 in
+      let next = getD (n .routes) p 0 in
+      only-width formLine (routeMost p) (ltb 0 next) (route a b next)
+      (λ e.
+      let r = place-routed n h p next w refl e in
+      let apart = neither (eqb a b) (eqb a next) (r .1) .0 in
+      let by = within-bounds 1 32 next (given-node n next (nodes-given n a b next (r .0) .by)) in
+      rw apart (simp length-append (omega (arith, route-width a b next, width-most 1 next (omega arith)))))
 
-  -- a node's line has at most 393 bytes, and a route's 17
-  text-width : length (networkText n) ≤ 30528
+  text-width : length (networkText n) ≤ 29376
   text-width =
       let fs = entriesFrom nodeForm 1 (n .nodes) in
       let gs = entriesFrom routeForm 0 (n .routes) in
-      let few = h .nodes in
-      let many = h .routes in
+      let nodes = rw (h .nodes) at (entries-width formLine nodeMost nodeForm 1 (n .nodes) noNode (λ j w. node-most j)) in
+      let routes = rw (h .routes) at (entries-width formLine routeMost routeForm 0 (n .routes) 0 (λ p w. rw (zero-add p) (route-most p (omega arith)))) in
       rw (lines-append formLine fs gs, length-append (joined (map formLine fs)) (joined (map formLine gs)))
-      (omega (
-        arith,
-        few,
-        many,
-        entries-width formLine 393 IsPlace nodeForm 1 (n .nodes) (h .places)
-            (λ a x i j g.
-            let d = width-most 1 a (omega arith) in
-            only-width formLine 393 (x .given) _
-            (λ e. simp length-append (omega (arith, node-width a (x .kind) (x .has) (x .needs) (g .has) (g .needs))))),
-        entries-width formLine 17 (λ next. next ≤ 32) routeForm 0 (n .routes)
-            (all-of-getD (λ next. next ≤ 32) (n .routes) 0 (λ p w. next-most p (omega arith)))
-            (λ p next i j g.
-            let a = width-most 1 (p / 33 + 1) (omega arith) in
-            let b = width-most 1 (p % 33) (omega arith) in
-            let c = width-most 1 next (omega arith) in
-            only-width formLine 17 (ltb 0 next) _
-            (λ e. simp length-append (omega (arith, route-width (p / 33 + 1) (p % 33) next)))),
-      ))
+      (omega (arith, nodes, routes, nodes-most, routes-most))
 
 -- ---- the promise
 
@@ -107,5 +117,5 @@ given-back =
       again = text-again;
       accepts = text-accepted;
       equal = λ n m h k. (ap networkText, text-same n m h k);
-      fits = λ n h. omega (arith, text-width n h);
+      fits = text-width;
     }

@@ -14,6 +14,7 @@ pub mod Balance
 pub mod Roomy
 pub mod Nodes
 pub mod Consistent
+pub mod LookUp
 pub mod Match
 pub mod Named
 pub mod Pending

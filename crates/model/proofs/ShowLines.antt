@@ -2,9 +2,10 @@
 use mathlib.Core.Bool.{Bool, true, false, _&&_}
 use mathlib.Core.List.{List, [], _∷_, map}
 use Prim.Native.Nat.{ℕ, _≤_, _<_}
+use native.Mathlib.Nat.{zero-add}
 use native.Mathlib.Omega.{arith}
 use lib.Dec.{ltb}
-use lib.ListN.{length, take, length-take, length-append}
+use lib.ListN.{length, getD, take, length-take, length-append}
 use Rattle.calculus.specs.Number.{isNode, spi}
 use Rattle.calculus.proofs.Tests.{either}
 use Rattle.forms.specs.Bytes.{joined}
@@ -16,8 +17,8 @@ use Rattle.model.specs.Lists.{All}
 use Rattle.model.specs.Row.{placeOut, placeNode, placePeer, spiOf}
 use Rattle.model.specs.Requests.{shownAs, associationAt, shown, shownLines}
 use Rattle.model.proofs.Places.{node-bounds}
-use Rattle.model.proofs.Lists.{all-take}
-use Rattle.model.proofs.Tables.{only-width, entries-width}
+use Rattle.model.proofs.Lists.{all-get, all-take}
+use Rattle.model.proofs.Tables.{total-constant, only-width, entries-width}
 
 spi-most : (a b : ℕ) → spi a b .0 ≤ 1279
 spi-most a b =
@@ -48,6 +49,7 @@ pub shown-fits : (l : List ℕ) → All (λ n. n ≤ 65535) l → length (joined
 unfolding shown
 shown-fits l h =
     let few = length-take 2048 l in
-    let places = entries-width associationLine 29 (λ n. n ≤ 65535) associationAt 0 (take 2048 l) (all-take _ 2048 l h)
-    (λ p n i j v. place-width p n (omega arith) v) in
-    rw (joined-append (map associationLine (shown l)) (endLine ∷ [])) (simp length-append (omega (arith, places, few)))
+    let some = all-take (λ n. n ≤ 65535) 2048 l h in
+    let places = entries-width associationLine (λ p. 29) associationAt 0 (take 2048 l) 0
+    (λ p i. rw (zero-add p) (place-width p (getD (take 2048 l) p 0) (omega arith) (all-get (λ n. n ≤ 65535) (take 2048 l) p 0 some (omega arith)))) in
+    rw (joined-append (map associationLine (shown l)) (endLine ∷ [])) (simp length-append (omega (arith, places, few, total-constant 29 0 (length (take 2048 l)))))

@@ -73,5 +73,5 @@ pub record GivenBack : Type 0 where
   pub accepts : (n : Network) → Consistent n → All AnsweredOk (replies fresh (map roomyCall (lines (networkText n))))
   -- "Two networks are equal exactly when their texts are the same bytes"
   pub equal : (n m : Network) → Consistent n → Consistent m → (n ≡ m) ↔ (networkText n ≡ networkText m)
-  -- it fits into the lent output of 65,536 bytes
-  pub fits : (n : Network) → Consistent n → length (networkText n) ≤ 65536
+  -- so it fits into the lent output, of 65,536 bytes or more
+  pub fits : (n : Network) → Consistent n → length (networkText n) ≤ 29376

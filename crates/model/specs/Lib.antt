@@ -19,5 +19,6 @@ pub mod Termination
 pub mod Refusals
 pub mod Show
 pub mod GivenBack
+pub mod LookUp
 pub mod Listings
 pub mod ListingsHold

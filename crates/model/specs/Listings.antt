@@ -337,7 +337,19 @@ waitsLeft =
     ∷ "(send 1 0 77)" ⇒ "(made 8)" ∷ "(step 1 8)" ⇒ "(made 9)" ∷ "(step 1 7)" ⇒ "(no 11)"
     ∷ []
 
+-- #104: node 1 goes to node 2 by a route of its own, and to node 3 by its default; node 3 has neither
+abbrev pub defaultWayOut : Listing
+defaultWayOut =
+    "(node 1 host (has) (needs))" ⇒ "(ok)" ∷ "(node 2 host (has) (needs))" ⇒ "(ok)" ∷ "(node 3 host (has) (needs))" ⇒ "(ok)"
+    ∷ "(route 0 2 3)" ⇒ "(no 2)" ∷ "(route 1 2 0)" ⇒ "(no 2)" ∷ "(route 1 0 4)" ⇒ "(no 4)" ∷ "(route 1 0 1)" ⇒ "(no 8)"
+    ∷ "(route 1 2 2)" ⇒ "(ok)" ∷ "(route 1 0 3)" ⇒ "(ok)" ∷ "(route 1 0 3)" ⇒ "(no 3)" ∷ "(route 1 0 2)" ⇒ "(no 3)"
+    ∷ "(net)" ⇒ "(node 1 host (has) (needs))\n(node 2 host (has) (needs))\n(node 3 host (has) (needs))\n(route 1 0 3)\n(route 1 2 2)"
+    ∷ "(open 1 0 2)" ⇒ "(no 2)" ∷ "(open 1 1 2)" ⇒ "(made 1)" ∷ "(step 1 1)" ⇒ "(made 2)" ∷ "(step 1 2)" ⇒ "(made 3 4)"
+    ∷ "(open 2 1 3)" ⇒ "(made 1)" ∷ "(step 2 1)" ⇒ "(made 2 default)" ∷ "(step 2 2)" ⇒ "(made 3 4)" ∷ "(step 2 4)" ⇒ "(made 5 6)"
+    ∷ "(step 2 5)" ⇒ "(made 7)" ∷ "(step 2 7)" ⇒ "(lost 3)" ∷ "(route 3 0 1)" ⇒ "(no 5)"
+    ∷ []
+
 abbrev pub furtherExamples : List Listing
 furtherExamples =
     throughGateway ∷ newestOfTwoRows ∷ exhausted ∷ dataInFirstOfThree ∷ threeTunnels ∷ serverSends ∷ lossesAtAGateway ∷ refusalsInOrder
-    ∷ networkGivenBack ∷ shownInOrder ∷ waitsLeft ∷ []
+    ∷ networkGivenBack ∷ shownInOrder ∷ waitsLeft ∷ defaultWayOut ∷ []
