@@ -9,7 +9,7 @@ use Rattle.calculus.specs.declared.answer.Answer.the-variants.{Ok, Made, MadeBy
 use Rattle.calculus.specs.declared.answer.Loss.the-variants.{HopLimit}
 use Rattle.calculus.specs.declared.answer.Refusal.the-variants.{Waiting, Range}
 use Rattle.calculus.specs.declared.network.Kind.the-variants.{Host, Gateway}
-use Rattle.calculus.specs.declared.request.Request.the-variants.{Step}
+use Rattle.calculus.specs.declared.request.Request.the-variants.{Route, Step}
 use Rattle.calculus.specs.Number.{spi}
 use Rattle.forms.specs.declared.line.Line.the-variants as line
 use Rattle.forms.specs.declared.read.Parsed.the-variants.{Asks, Refused}
@@ -47,12 +47,18 @@ near-misses = refl
 
 -- ---- in range, and out of range
 
-in-range : (asked (some (step 8 1000000))) .parsed ≡ Asks (Step (record { 0 = 8 }) (record { 0 = 1000000 }))
+in-range : map (λ f. (asked (some f)) .parsed) (step 8 1000000 ∷ route 2 0 3 ∷ [])
+    ≡ Asks (Step (record { 0 = 8 }) (record { 0 = 1000000 })) ∷ Asks (Route 2 0 3) ∷ []
 in-range = refl
 
 out-of-range : map (λ f. (asked (some f)) .parsed) (step 9 1 ∷ step 1 0 ∷ step 1 1000001 ∷ send 1 2 0 ∷ node 33 Host [] [] ∷ node 1 Host (5 ∷ 5 ∷ []) [] ∷ [])
     ≡ replicate 6 (Refused Range)
 out-of-range = refl
+
+-- 0 is no node's, and a destination in a route alone
+no-node-0 : map (λ f. (asked (some f)) .parsed) (node 0 Host [] [] ∷ route 0 1 2 ∷ route 1 2 0 ∷ «open» 1 0 2 ∷ «open» 1 2 0 ∷ [])
+    ≡ replicate 5 (Refused Range)
+no-node-0 = refl
 
 -- ---- answers
 

@@ -35,12 +35,14 @@ pub fn check(name: &str, calls: &[Vec<u8>]) -> Outcome<()> {
 }
 
 /// The same on the random lists of the tests, with every loss and refusal but that of a line that is no form. The model
-/// is document 01's, so it has no `(net)`.
+/// is document 01's, so it has no `(net)` and no default route.
 pub fn check_random_lists() -> Outcome<()> {
     let mut count = 0;
     for index in 0..RANDOM_LISTS {
         let mut calls = list(SEED, index, RANDOM_LENGTH, LateNetwork::Yes).calls;
-        calls.retain(|call| Form::read(call).is_some_and(|form| form != Form::Net));
+        calls.retain(|call| {
+            Form::read(call).is_some_and(|form| !matches!(form, Form::Net | Form::Route { destination: 0, .. }))
+        });
         compare(&calls)?;
         count += calls.len();
     }
