@@ -16,12 +16,16 @@ pub fn steps(session: u64, steps: &[(u64, &str)]) -> Listing {
 
 /// Steps of items that each make the next number.
 pub fn moves(session: u64, items: RangeInclusive<u64>) -> Listing {
-    items.map(|item| (format!("(step {session} {item})"), format!("(made {})", item + 1))).collect()
+    moves_that_say(session, items, "")
 }
 
 /// Such steps on the wire, each moved by a default route.
 pub fn default_moves(session: u64, items: RangeInclusive<u64>) -> Listing {
-    items.map(|item| (format!("(step {session} {item})"), format!("(made {} default)", item + 1))).collect()
+    moves_that_say(session, items, " default")
+}
+
+fn moves_that_say(session: u64, items: RangeInclusive<u64>, said: &str) -> Listing {
+    items.map(|item| (format!("(step {session} {item})"), format!("(made {}{said})", item + 1))).collect()
 }
 
 /// A show of these associations.

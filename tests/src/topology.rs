@@ -139,8 +139,8 @@ fn with_defaults(random: &mut Random, nodes: &[u64], exact: Vec<Route>) -> Vec<R
     routes
 }
 
-/// At most of the nodes, one next hop of its routes becomes its default, and only a few of those routes stay: the ways are the
-/// same.
+/// At most of the nodes, one next hop of its routes becomes its default, and only a few of those routes stay: every way
+/// that there was stays.
 pub fn with_uplinks(random: &mut Random, exact: Vec<Route>) -> Vec<Route> {
     let mut next_hops: BTreeMap<u64, Vec<u64>> = BTreeMap::new();
     for &(at, _, next) in &exact {

@@ -1,12 +1,12 @@
 //! Default routes (#104), on both implementations. Random lists and networks have them too. SEED and COUNT in the environment
 //! choose other lists.
 
-use simulator_tests::compare::{check, check_output, difference, is_network, made};
+use simulator_tests::compare::{check, difference, is_network, made};
 use simulator_tests::listing::{default_moves, exchanges, moves, steps, Listing};
 use simulator_tests::lists::{input, list, LateNetwork};
 use simulator_tests::network::{route_form, LookUp, Network};
 use simulator_tests::program;
-use simulator_tests::random::{for_each_index, setting, Random};
+use simulator_tests::random::{for_each_index, setting};
 use simulator_tests::recorder::{Recorder, NONE};
 use simulator_tests::simulator::Simulator;
 use std::collections::BTreeSet;
@@ -161,50 +161,6 @@ fn tour_opens_between_all_venues() {
     check(&recorder.listing);
 }
 
-/// The calls of two sessions on the network, each alone with the answers that it gets there.
-fn alone(network: &Listing) -> [Listing; 2] {
-    [(1, 1, 21), (2, 22, 3)].map(|(session, client, server)| {
-        let mut recorder = after(network);
-        recorder.call(format!("(open {session} {client} {server})"));
-        recorder.drive(session, NONE);
-        for side in 0..2 {
-            recorder.call(format!("(send {session} {side} 7)"));
-        }
-        recorder.drive(session, NONE);
-        check(&recorder.listing);
-        recorder.listing.split_off(network.len())
-    })
-}
-
-/// The listings mixed: each turn takes the next exchange of the one that is picked, or of the other at its end.
-fn mixed([one, other]: [Listing; 2], mut picks_one: impl FnMut() -> bool) -> Listing {
-    let (mut one, mut other) = (one.into_iter().peekable(), other.into_iter().peekable());
-    let mut listing = Listing::new();
-    while one.peek().is_some() || other.peek().is_some() {
-        let from = if picks_one() && one.peek().is_some() || other.peek().is_none() { &mut one } else { &mut other };
-        listing.extend(from.next());
-    }
-    listing
-}
-
-/// Two sessions go over the same uplinks in opposite directions, in any mixture; both are answered as alone.
-#[test]
-fn sessions_over_defaults_run_as_if_alone() {
-    let network = tour();
-    let alone = alone(&network);
-    assert!(alone.iter().all(|listing| made_by_default(listing).len() > 8));
-    let mut one_in_turn = false;
-    let mut in_turn = || {
-        one_in_turn = !one_in_turn;
-        one_in_turn
-    };
-    check(&[network.clone(), mixed(alone.clone(), &mut in_turn)].concat());
-    let mut random = Random::new(setting("SEED", 14), 0);
-    for share in [2, 2, 3, 5, 10] {
-        check(&[network.clone(), mixed(alone.clone(), || random.one_in(share))].concat());
-    }
-}
-
 /// The refusals of a default are 1, 2, 5, 4, 8 and 3, in this order: calls that meet two of them. Node 2 has a default.
 #[test]
 fn order_of_refusals() {
@@ -226,11 +182,6 @@ fn order_of_refusals() {
         ("(route 2 0 9)", "(no 4)"),
         // 8 before 3
         ("(route 2 0 2)", "(no 8)"),
-        // each alone
-        ("(route 9 0 1)", "(no 4)"),
-        ("(route 1 0 9)", "(no 4)"),
-        ("(route 1 0 1)", "(no 8)"),
-        ("(route 2 0 3)", "(no 3)"),
     ]);
     let after_an_open = exchanges(&[
         // 1 and 2 before 5, 5 before 4, 8 and 3
@@ -297,29 +248,6 @@ fn zero_is_no_node() {
     let nodes = accepted(["(node 1 host (has 0) (needs))", "(node 2 host (has) (needs 0))"]);
     let send = exchanges(&[("(send 1 0 0)", "(made 2)")]);
     check(&[nodes, zeros.clone(), defaults, zeros.clone(), open(1, 1, 2), zeros, send].concat());
-}
-
-/// A default stands first among its node's routes, also before one for node 1, and after all routes of lower nodes.
-#[test]
-fn network_text() {
-    let calls = [
-        host(10),
-        host(2),
-        gate(1),
-        "(route 10 1 1)".to_string(),
-        "(route 10 0 2)".to_string(),
-        "(route 2 10 10)".to_string(),
-        "(route 1 0 10)".to_string(),
-        "(route 2 1 1)".to_string(),
-        "(route 2 0 1)".to_string(),
-        "(route 10 2 2)".to_string(),
-    ];
-    let text = [gate(1), host(2), host(10)].join("\n")
-        + "\n(route 1 0 10)\n(route 2 0 1)\n(route 2 1 1)\n(route 2 10 10)\n\
-           (route 10 0 2)\n(route 10 1 1)\n(route 10 2 2)\n";
-    let answers = "(ok)\n".repeat(calls.len());
-    check_output(&input(&[calls.join("\n"), "(net)".to_string()]), (answers.clone() + &text).as_bytes());
-    check_output((text.clone() + "(net)\n").as_bytes(), (answers + &text).as_bytes());
 }
 
 /// All 32 defaults and no other route, given from the highest node down; the fullest network is in the test of the text.

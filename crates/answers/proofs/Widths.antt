@@ -21,7 +21,7 @@ use Rattle.calculus.proofs.answer.Answer.{the-type}
 use Rattle.forms.specs.Bytes.{bytes}
 use Rattle.forms.specs.Text.{listText, node, route, formLine}
 use Rattle.forms.specs.Request.{nodeOf}
-use Rattle.forms.specs.Answer.{lineText, byDefaultLine, answerText, associationLine}
+use Rattle.forms.specs.Answer.{lineText, madeByDefaultLine, answerText, associationLine}
 use Rattle.forms.proofs.Decimal.{width-most}
 use Rattle.forms.proofs.Lists.{list-end, width-list}
 use Rattle.forms.proofs.LineWidths.{node-width, route-width, association-width}
@@ -72,15 +72,15 @@ refusal-small refusals.NoItem = omega arith
 refusal-small refusals.Waiting = omega arith
 refusal-small refusals.Full = omega arith
 
-pub by-default-width : (n : ℕ) → n < 2 ^ 32 → length (byDefaultLine n) ≤ 32
-by-default-width n h = simp length-append (omega (arith, width-most 9 n (omega arith)))
+pub made-by-default-width : (n : ℕ) → n < 2 ^ 32 → length (madeByDefaultLine n) ≤ 32
+made-by-default-width n h = simp length-append (omega (arith, width-most 9 n (omega arith)))
 
 -- of an answer that the code holds: its numbers have the widths of their types
 pub answer-width : (a : Answer) (vs : List Val) → Is (row the-type) a vs → length (answerText a) ≤ 32
 unfolding answerText
 answer-width Ok vs h = omega arith
 answer-width (Made n) vs h = omega (arith, line-one (n .0) (omega arith))
-answer-width (MadeByDefault n) vs h = by-default-width (n .0) (omega arith)
+answer-width (MadeByDefault n) vs h = made-by-default-width (n .0) (omega arith)
 answer-width (MadeTwo n m) vs h = omega (arith, line-two (n .0) (m .0) (omega arith) (omega arith))
 answer-width (Lost l) vs h = omega (arith, line-one (lossNumber l) (loss-small l))
 answer-width Denied vs h = omega arith

@@ -8,14 +8,14 @@ use crate::room::has_room;
 use calculus::answer::Answer;
 ghost use Prim.Native.Nat.{_+_, _≤_};
 ghost use lib.ListN.{length};
-ghost use Rattle.forms.specs.Answer.{byDefaultLine, answerText};
+ghost use Rattle.forms.specs.Answer.{madeByDefaultLine, answerText};
 ghost use Rattle.answers.specs.Write.{Writes};
 ghost use Rattle.answers.specs.Put.{Put};
 
 // The line of an item that a default route moved. The caller has made sure of the room.
-fn put_by_default(out: &mut [u8], at: usize, n: u64) -> usize
-    requires { ⌜ at + length (byDefaultLine n) ≤ length (now out) ⌝ }
-    ensures { λ r. ⌜ Put (now (out .entry)) at (byDefaultLine n) (now (out .exit)) r ⌝ }
+fn put_made_by_default(out: &mut [u8], at: usize, n: u64) -> usize
+    requires { ⌜ at + length (madeByDefaultLine n) ≤ length (now out) ⌝ }
+    ensures { λ r. ⌜ Put (now (out .entry)) at (madeByDefaultLine n) (now (out .exit)) r ⌝ }
 {
     let next = put_numbered(out, at, b"(made ", n);
     put_word(out, next, b" default)\n")
@@ -29,7 +29,7 @@ fn put_answer(out: &mut [u8], at: usize, answer: Answer) -> usize
     match answer {
         Answer::Ok => put_word(out, at, b"(ok)\n"),
         Answer::Made(item) => put_one(out, at, b"(made", item.0 as u64),
-        Answer::MadeByDefault(item) => put_by_default(out, at, item.0 as u64),
+        Answer::MadeByDefault(item) => put_made_by_default(out, at, item.0 as u64),
         Answer::MadeTwo(item, next) => {
             let ns = [item.0 as u64, next.0 as u64];
             put_line(out, at, b"(made", &ns)

@@ -1,5 +1,6 @@
 // Session numbers, item numbers and SPIs: three spaces, so three types.
 ghost use mathlib.Core.Path.{_≡_};
+ghost use Prim.Native.Nat.{_-_};
 ghost use Rattle.calculus.specs.Number as spec;
 
 // Whether `n` is `low` to `high`.
@@ -42,6 +43,13 @@ pub fn is_tag(n: u64) -> bool
     ensures { λ r. ⌜ r ≡ spec.isTag n ⌝ }
 {
     within(n, 0, 4294967295)
+}
+
+// `n` − 1, and 0 of 0.
+pub fn before(n: u8) -> u8
+    ensures { λ r. ⌜ r ≡ n - 1 ⌝ }
+{
+    if n == 0 { 0 } else { n - 1 }
 }
 
 // A set-up session, 1 to 8.

@@ -14,14 +14,14 @@ abbrev pub lineText : List ℕ → List ℕ → List ℕ
 lineText word ns = word ++ (listText ns ++ bytes "\n")
 
 -- "(made 5 default)", with its newline
-abbrev pub byDefaultLine : ℕ → List ℕ
-byDefaultLine n = joined (bytes "(made " ∷ decimal n ∷ bytes " default)\n" ∷ [])
+abbrev pub madeByDefaultLine : ℕ → List ℕ
+madeByDefaultLine n = joined (bytes "(made " ∷ decimal n ∷ bytes " default)\n" ∷ [])
 
 -- the line of an answer, with its newline
 unfoldable pub answerText : answer.Answer → List ℕ
 answerText Ok = bytes "(ok)\n"
 answerText (Made n) = lineText (bytes "(made") (n .0 ∷ [])
-answerText (MadeByDefault n) = byDefaultLine (n .0)
+answerText (MadeByDefault n) = madeByDefaultLine (n .0)
 answerText (MadeTwo n m) = lineText (bytes "(made") (n .0 ∷ m .0 ∷ [])
 answerText (Lost l) = lineText (bytes "(lost") (lossNumber l ∷ [])
 answerText Denied = bytes "(denied)\n"

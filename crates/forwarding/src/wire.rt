@@ -7,6 +7,7 @@ use calculus::effect::Outcome;
 use calculus::effect::Wait;
 use calculus::network::Network;
 use calculus::network::NextHop;
+use calculus::number::before;
 use calculus::packet::Item;
 use calculus::packet::Packet;
 use calculus::packet::Payload;
@@ -20,7 +21,6 @@ use items::packet::target;
 use lookups::network::is_gateway;
 use lookups::network::next_hop;
 ghost use mathlib.Core.Path.{_≡_};
-ghost use Prim.Native.Nat.{_-_};
 ghost use lib.Dec.{eqb};
 ghost use Rattle.model.specs.Network.{isGateway, nextHop};
 ghost use Rattle.model.specs.Packet as packet;
@@ -81,12 +81,6 @@ fn unprotected(gateway: bool, p: Packet) -> bool
         }
     }
     false
-}
-
-fn before(n: u8) -> u8
-    ensures { λ r. ⌜ r ≡ n - 1 ⌝ }
-{
-    if n == 0 { 0 } else { n - 1 }
 }
 
 fn onward(next: NextHop, p: Packet, hops: u8) -> Effect

@@ -3,10 +3,10 @@ use calculus::network::Kind;
 use calculus::network::Network;
 use calculus::network::NextHop;
 use calculus::network::Node;
+use calculus::number::before;
 use calculus::number::is_node;
 ghost use mathlib.Core.Path.{_≡_};
 ghost use mathlib.Core.Bool.{not, _||_};
-ghost use Prim.Native.Nat.{_-_};
 ghost use Rattle.model.specs.Network as spec;
 
 // What stands where no node is given.
@@ -58,24 +58,14 @@ pub fn is_gateway(n: Network, a: u8) -> bool
     is_gate(kind)
 }
 
-// The place of a node; 0 has that of node 1.
-pub fn node_place(a: u8) -> usize
-    ensures { λ r. ⌜ r ≡ a - 1 ⌝ }
-{
-    if a == 0 {
-        return 0;
-    }
-    a as usize - 1
-}
-
-// The place of the route from `a` for destination `b`.
+// The place of the route from node `a` for destination `b`.
 pub fn route_place(a: u8, b: u8) -> usize
     ensures { λ r. ⌜ r ≡ spec.routePlace a b ⌝ }
 {
-    33 * node_place(a) + b as usize
+    33 * before(a) as usize + b as usize
 }
 
-// The next node that was given from `a` for destination `b`, or 0; past the end of the table there is none.
+// The next node of the route from node `a` for destination `b`, 0 where none was given; past the end of the table there is none.
 pub fn route_to(n: Network, a: u8, b: u8) -> u8
     ensures { λ r. ⌜ r ≡ spec.routeTo n a b ⌝ }
 {

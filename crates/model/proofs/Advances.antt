@@ -7,12 +7,10 @@ use lib.Dec.{eqb}
 use borrow.Author.Tests.{eqb-true, eqb-false, eq-eqb, ne-eqb, not-false, not-true}
 use Rattle.calculus.proofs.Tests.{both, never, either}
 use Rattle.calculus.specs.declared.answer.Loss.{Loss}
-use Rattle.calculus.specs.declared.effect.Outcome.the-variants.{WroteByDefault}
 use Rattle.calculus.specs.declared.effect.Effect.{Effect}
 use Rattle.calculus.specs.declared.network.Network.{Network}
 use Rattle.calculus.specs.declared.network.NextHop.{NextHop}
 use Rattle.calculus.specs.declared.network.NextHop.the-variants.{Exact, Default, Missing}
-use Rattle.calculus.specs.declared.number.Spi.{Spi}
 use Rattle.calculus.specs.declared.packet.Payload.the-variants.{Req, Rep, Disc, Done}
 use Rattle.calculus.specs.declared.packet.Header.the-variants.{Tunnel}
 use Rattle.calculus.specs.declared.packet.Packet.{Packet}
@@ -25,12 +23,12 @@ use Rattle.model.specs.Lists.{All}
 use Rattle.model.specs.Network.{isGateway, nextHop, hasAllNeeded}
 use Rattle.model.specs.Packet.{hopLimit, bare, under}
 use Rattle.model.specs.Row.{held, newest, admits}
-use Rattle.model.specs.Rules.{only, lost, writes, isExhausted, begin, discovers, headerTo, unprotected, onward, wireRule, outRule, upRule, sameVia, agrees, received, inRule, estRule, authRule, grantRule, acknowledged, ackRule, rule}
+use Rattle.model.specs.Rules.{lost, writes, isExhausted, begin, discovers, headerTo, unprotected, onward, wireRule, outRule, upRule, sameVia, agrees, received, inRule, estRule, authRule, grantRule, acknowledged, ackRule, rule}
 use Rattle.model.specs.State.{begunAfter, addedRows}
 use Rattle.model.specs.Termination.{tripSteps, ceiling, isActive}
 use Rattle.model.proofs.Discovers.{server-discovers, not-exhausted}
 use Rattle.model.proofs.Named.{Written}
-use Rattle.model.proofs.Trips.{Trip, sent, onWire, Travels, gone, further, byDefault, comes, travels, trip-some}
+use Rattle.model.proofs.Trips.{Trip, sent, onWire, Travels, gone, further, hops, comes, travels, trip-some}
 use Rattle.model.proofs.Underway.{Leaves, Ends, Discovering, Begun, Returning, Underway, discovering, establishing, requesting, responderAuth, responderGrant, replying, initiatorAuth, initiatorGrant, acknowledging, doneOut, doneOnWire, doneUp, doneIn, doneBare}
 use Rattle.model.proofs.Points.{nextNode, points, walk-found, walk-on, points-next, after-client, between-next, met-once, Chained, responderOut, responderIn, initiatorOut, initiatorIn, never-tunnelled, passed}
 
@@ -70,15 +68,18 @@ module _ (net : Network) (standing : ℕ → ℕ → Bool) (t : Part) (n : ℕ) 
     wrote : {i : Item} → n + 1 ≤ ceiling → Place i → After (writes i)
     wrote h p = record { counted = h; written = λ o. p; added = tt }
 
-    wrote-by-default : {i : Item} → n + 1 ≤ ceiling → Place i → After (only (WroteByDefault i))
-    wrote-by-default h p = record { counted = h; written = λ o. p; added = tt }
+    -- whatever the look-up says; with no next node there is no item to place
+    moved-on : (next : NextHop) (p : Packet) (h : ℕ) → n + 1 ≤ ceiling → Place (Wire (nextNode next) p (h - 1)) → After (onward next p h)
+    moved-on (Exact next) p h few w = record { counted = few; written = λ o. w; added = tt }
+    moved-on (Default next) p h few w = record { counted = few; written = λ o. w; added = tt }
+    moved-on Missing p h few w = loses few
 
     -- a packet on its way goes on, is lost or is received
     on-trip : {j : ℕ} {f : Effect} (p : Packet) → n + 1 ≤ ceiling → Travels p j f → ((k : ℕ) (i : Item) → Trip p k i → k < j → Place i)
         → After (received (p .destination) (p .source) (p .payload)) → After f
     on-trip p h (gone x) g r = loses h
     on-trip p h (further k i w m) g r = wrote h (g k i w m)
-    on-trip p h (byDefault k i w m) g r = wrote-by-default h (g k i w m)
+    on-trip p h (hops next k z e) g r = moved-on next p k h (g (k - 1 + 3) _ (onWire (nextNode next) (k - 1)) (omega arith))
     on-trip p h comes g r = r
 
     -- the client discovers nothing
@@ -91,26 +92,16 @@ module _ (net : Network) (standing : ℕ → ℕ → Bool) (t : Part) (n : ℕ) 
     -- a Disc that nobody discovers at a, and that has hops left
     onward-disc : (a h : ℕ) → Discovering net c d b n a h → discovers (isGateway net a) d a (Disc (point b)) ≡ false → (h ≡ 0 → ⊥)
         → After (onward (nextHop net a d) (bare c d (Disc (point b))) h)
-    onward-disc a h w g z = go (nextHop net a d) refl
-      where
-        few : n + 1 ≤ ceiling
-        few = omega (arith, w .leaves, w .few)
-
-        moved : Place (Wire (nextNode (nextHop net a d)) (bare c d (Disc (point b))) (h - 1))
-        moved =
-            discovering (nextNode (nextHop net a d)) (h - 1)
-            (record {
-              between = w .between;
-              before = w .before;
-              few = w .few;
-              arrives = walk-on net d (point b) h a z g ∙ w .arrives;
-              leaves = omega (arith, w .leaves);
-            })
-
-        go : (next : NextHop) → nextHop net a d ≡ next → After (onward next (bare c d (Disc (point b))) h)
-        go (Exact next) e = wrote few (rw e at moved)
-        go (Default next) e = wrote-by-default few (rw e at moved)
-        go Missing e = loses few
+    onward-disc a h w g z =
+        moved-on (nextHop net a d) (bare c d (Disc (point b))) h (omega (arith, w .leaves, w .few))
+        (discovering (nextNode (nextHop net a d)) (h - 1)
+        (record {
+          between = w .between;
+          before = w .before;
+          few = w .few;
+          arrives = walk-on net d (point b) h a z g ∙ w .arrives;
+          leaves = omega (arith, w .leaves);
+        }))
 
     -- the node that discovers the Disc is the next point
     begins : (a h : ℕ) → Discovering net c d b n a h → discovers (isGateway net a) d a (Disc (point b)) ≡ true → b < 8
@@ -131,12 +122,6 @@ module _ (net : Network) (standing : ℕ → ℕ → Bool) (t : Part) (n : ℕ) 
           );
           added = tt;
         }
-
-    onward-done : (next : NextHop) (x k q : ℕ) (s : Spi) (h : ℕ) → Returning net c d b x k
-        → tripSteps * (k - 1) + (h + 3) + n ≤ ceiling → (h ≡ 0 → ⊥) → After (onward next (under (bare d c Done) (Tunnel x q s)) h)
-    onward-done (Exact next) x k q s h w m z = wrote (omega arith) (doneOnWire x k q s next (h - 1) w (omega arith))
-    onward-done (Default next) x k q s h w m z = wrote-by-default (omega arith) (doneOnWire x k q s next (h - 1) w (omega arith))
-    onward-done Missing x k q s h w m z = loses (omega arith)
 
     -- the ack of the server sends Done, any other the next Disc
     ack-next : (i : ℕ) → Begun net c d b i → Leaves b n 1 → Place (acknowledged (t .session) (point b))
@@ -232,7 +217,7 @@ module _ (net : Network) (standing : ℕ → ℕ → Bool) (t : Part) (n : ℕ) 
         let few : n + 1 ≤ ceiling = omega arith in
         either After (eqb y q) (λ e. wrote few (doneUp x k q s y w (omega arith)))
         (λ e. either After (unprotected (isGateway net y) p) (λ o. loses few)
-        (λ o. either After (eqb h 0) (λ z. loses few) (λ z. onward-done (nextHop net y q) x k q s h w m (eqb-false h 0 z))))
+        (λ o. either After (eqb h 0) (λ z. loses few) (λ z. moved-on (nextHop net y q) p h few (doneOnWire x k q s (nextNode (nextHop net y q)) (h - 1) w (omega (arith, eqb-false h 0 z))))))
     advances i (doneUp x k q s y w m) =
         let few : n + 1 ≤ ceiling = omega arith in
         either After (standing y x && admits (held t) y x) (λ e. wrote few (doneIn x k y w (omega arith))) (λ e. loses few)

@@ -12,7 +12,6 @@ use Rattle.calculus.specs.Number.{within, isNode, isDestination, isSession, isI
 use Rattle.calculus.specs.declared.network.Network.{Network}
 use Rattle.calculus.specs.declared.packet.Payload.the-variants.{Disc}
 use Rattle.calculus.specs.declared.packet.Item.the-variants.{Wire}
-use Rattle.calculus.specs.declared.request.Request as request
 use Rattle.calculus.specs.declared.request.Sender.{Sender}
 use Rattle.calculus.specs.declared.state.Part.{Part}
 use Rattle.calculus.specs.declared.state.State.{State}

@@ -7,7 +7,7 @@ use native.Mathlib.Decide.{ℕ-discrete}
 use native.Mathlib.Omega.{arith}
 use borrow.Author.Tests.{ltb-true, eqb-true, eq-eqb}
 use lib.Dec.{ltb, eqb}
-use lib.ListN.{length, getD, set, length-set, length-replicate, getD-replicate}
+use lib.ListN.{length, getD, length-set, length-replicate, getD-replicate}
 use lib.Seq.{getD-set-same, getD-set-other}
 use Rattle.calculus.specs.Number.{isNode}
 use Rattle.calculus.proofs.Tests.{never, either, both, not-so, within-bounds}
@@ -16,10 +16,10 @@ use Rattle.calculus.specs.declared.network.Network.{Network}
 use Rattle.calculus.specs.declared.network.Node as declared
 use Rattle.model.specs.Network.{noNode, nodeAt, given, isDefault, routePlace, routeTo}
 use Rattle.model.specs.State.{fresh}
-use Rattle.model.specs.Requests.{withNode, withRoute, nodesGiven, leadsBack}
-use Rattle.model.specs.GivenBack.{IsPlace, Consistent}
+use Rattle.model.specs.Requests.{withNode, withRoute, destinationGiven, nodesGiven, leadsBack}
+use Rattle.model.specs.GivenBack.{IsPlace, Passes, Consistent}
 use Rattle.model.proofs.Lists.{all-set, all-replicate, get-set}
-use Rattle.model.proofs.Nodes.{Node, Destination, given-node, nodes-given, given-destination, empty-place}
+use Rattle.model.proofs.Nodes.{Node, Destination, nodes-given, InRange, nodes-range, empty-place}
 
 place-below : (a b : ℕ) → Node a → Destination b → routePlace a b < 1056
 place-below a b h g = omega (arith, within-bounds 1 32 a h, within-bounds 0 32 b g)
@@ -48,7 +48,7 @@ module _ (n : Network) (a : ℕ) (k : Kind) (has needs : List Bool) where
       go true h = get-set (λ (x : declared.Node). x .given ≡ true) (n .nodes) (b - 1) (a - 1) _ noNode h refl
       go false h = never h
 
-  for-still : (d : ℕ) → (isDefault d || given n d) ≡ true → (isDefault d || given (withNode n a k has needs) d) ≡ true
+  for-still : (d : ℕ) → destinationGiven n d ≡ true → destinationGiven (withNode n a k has needs) d ≡ true
   for-still d = go (isDefault d)
     where
       go : (t : Bool) → (t || given n d) ≡ true → (t || given (withNode n a k has needs) d) ≡ true
@@ -96,10 +96,6 @@ module _ (n : Network) (h : Consistent n) (a b next : ℕ) (at : Node a) (for : 
           (λ e. let z = both (eqb c a) (eqb d b) e in w (rw (eqb-true c a (z .0), eqb-true d b (z .1)))) in
           rw apart (getD-set-other (n .routes) (routePlace a b) (routePlace c d) next 0 w)
 
--- the next node m of a route from c for d: if there is one, refusals 4 and 8 let it pass
-abbrev Passes : Network → ℕ → ℕ → ℕ → Type 0
-Passes n c d m = ltb 0 m ≡ true → (nodesGiven n c d m ≡ true) × (leadsBack c d m ≡ false)
-
 pub consistent-route : (n : Network) (a b next : ℕ) → nodesGiven n a b next ≡ true → leadsBack a b next ≡ false → Consistent n
     → Consistent (withRoute n a b next)
 unfolding nodeAt
@@ -108,17 +104,14 @@ consistent-route n a b next e f h =
       nodes = h .nodes;
       routes = length-set (n .routes) (routePlace a b) next ∙ h .routes;
       places = h .places;
-      routed = λ c d i j. subst (Passes n c d) (sym (route-set n h a b next at for c d i j)) (passes c d i j);
+      routed = λ c d i j. subst (λ (m : ℕ). ltb 0 m ≡ true → Passes n c d m) (sym (route-set n h a b next (r .at) (r .for) c d i j)) (passes c d i j);
     }
   where
-    at : Node a
-    at = given-node n a (nodes-given n a b next e .at)
+    r : InRange a b next
+    r = nodes-range n a b next e
 
-    for : Destination b
-    for = given-destination n b (nodes-given n a b next e .for)
-
-    passes : (c d : ℕ) → Node c → Destination d → Passes n c d (cond (eqb c a && eqb d b) next (routeTo n c d))
+    passes : (c d : ℕ) → Node c → Destination d → let m = cond (eqb c a && eqb d b) next (routeTo n c d) in ltb 0 m ≡ true → Passes n c d m
     passes c d i j =
-        either (Passes n c d) (eqb c a && eqb d b)
+        either (λ (m : ℕ). ltb 0 m ≡ true → Passes n c d m) (eqb c a && eqb d b)
         (λ w k. let z = both (eqb c a) (eqb d b) w in rw (eqb-true c a (z .0), eqb-true d b (z .1)) (e, f))
         (λ w. h .routed c d i j)

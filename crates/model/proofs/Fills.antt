@@ -2,7 +2,7 @@
 use mathlib.Core.Path.{_≡_, refl, sym, ap, subst, _∙_}
 use mathlib.Core.Bool.{Bool, true, false}
 use mathlib.Core.List.{List, [], _∷_, _++_}
-use Prim.Native.Nat.{ℕ, _+_, _-_, _/_, _%_, _<_}
+use Prim.Native.Nat.{ℕ, _+_, _-_, _<_}
 use native.Mathlib.Omega.{arith}
 use lib.Dec.{ltb}
 use borrow.Author.Tests.{ltb-false}
@@ -16,13 +16,12 @@ use Rattle.calculus.specs.declared.network.Node as declared
 use Rattle.calculus.specs.declared.state.State.{State}
 use Rattle.forms.specs.Request.{nodeOf}
 use Rattle.model.specs.Lists.{All}
-use Rattle.model.specs.Network.{noNode, nodeAt, given, routePlace, routeTo, isRouted}
+use Rattle.model.specs.Network.{noNode, nodeAt, given, routePlace, placeAt, placeDestination, routeTo, isRouted}
 use Rattle.model.specs.NetworkText.{nodeForm, routeForm, networkForms}
 use Rattle.model.specs.State.{fresh}
-use Rattle.model.specs.Requests.{nodesGiven, leadsBack}
-use Rattle.model.specs.GivenBack.{IsPlace, Consistent, freshWith}
+use Rattle.model.specs.GivenBack.{IsPlace, Passes, Consistent, freshWith}
 use Rattle.model.proofs.Lists.{all-at}
-use Rattle.model.proofs.Nodes.{Node, Destination}
+use Rattle.model.proofs.Nodes.{Node}
 use Rattle.model.proofs.Gives.{ok, node-ok, route-ok, Gives, none-left, one-more, gives-append, table-gives}
 
 -- ---- the nodes
@@ -68,20 +67,14 @@ module _ (n : Network) (h : Consistent n) where
   abbrev withRoutes : List ℕ → State
   withRoutes l = freshWith (record { nodes = n .nodes; routes = l })
 
-  -- the two ends of the route at a place
-  at-node : (p : ℕ) → p < 1056 → Node (p / 33 + 1)
-  at-node p h = bounds-within 1 32 (p / 33 + 1) (omega arith) (omega arith)
-
-  for-destination : (p : ℕ) → Destination (p % 33)
-  for-destination p = bounds-within 0 32 (p % 33) (omega arith) (omega arith)
-
   -- the route at a place is one that is accepted
-  pub place-routed : (p next : ℕ) → p < 1056 → getD (n .routes) p 0 ≡ next → ltb 0 next ≡ true
-      → (nodesGiven n (p / 33 + 1) (p % 33) next ≡ true) × (leadsBack (p / 33 + 1) (p % 33) next ≡ false)
+  pub place-routed : (p next : ℕ) → p < 1056 → getD (n .routes) p 0 ≡ next → ltb 0 next ≡ true → Passes n (placeAt p) (placeDestination p) next
   place-routed p next w e some =
-      let same : routePlace (p / 33 + 1) (p % 33) ≡ p = omega arith in
-      let stored : routeTo n (p / 33 + 1) (p % 33) ≡ next = rw same e in
-      rw stored at (h .routed (p / 33 + 1) (p % 33) (at-node p w) (for-destination p) (rw stored some))
+      let same : routePlace (placeAt p) (placeDestination p) ≡ p = omega arith in
+      let stored : routeTo n (placeAt p) (placeDestination p) ≡ next = rw same e in
+      let at = bounds-within 1 32 (placeAt p) (omega arith) (omega arith) in
+      let for = bounds-within 0 32 (placeDestination p) (omega arith) (omega arith) in
+      rw stored at (h .routed (placeAt p) (placeDestination p) at for (rw stored some))
 
   route-fills : (p : List ℕ) (next : ℕ) (r l : List ℕ) → n .routes ≡ p ++ next ∷ l
       → Gives (withRoutes (p ++ 0 ∷ r)) (routeForm (0 + length p) next) (withRoutes (p ++ next ∷ r))
@@ -94,17 +87,16 @@ module _ (n : Network) (h : Consistent n) where
           rw (e, z) none-left
       go (is e) =
           let k = 0 + length p in
-          let a = k / 33 + 1 in
-          let b = k % 33 in
+          let a = placeAt k in
+          let b = placeDestination k in
           let few : k < 1056 = omega (arith, h .routes, ap length w, length-append p (next ∷ l)) in
           let stored : getD (n .routes) k 0 ≡ next = rw w (getD-at p next l 0 k (omega arith)) in
-          let r₁ = place-routed k next few stored e in
           let m : Network = record { nodes = n .nodes; routes = p ++ 0 ∷ r } in
           let place : routePlace a b ≡ k = omega arith in
           let free : isRouted m a b ≡ false = rw (place, getD-at p 0 r 0 k (omega arith)) in
           rw e
           (one-more
-          (route-ok m a b next (r₁ .0) (r₁ .1) free
+          (route-ok m a b next (place-routed k next few stored e) free
           ∙ ap (λ (t : List ℕ). ok (withRoutes t)) (ap (λ (q : ℕ). set (p ++ 0 ∷ r) q next) place ∙ set-at p 0 r next k (omega arith)))
           none-left)
 

@@ -2,7 +2,7 @@
 use mathlib.Core.Path.{_≡_, refl, sym, ap, _∙_}
 use mathlib.Core.Bool.{cond}
 use mathlib.Core.List.{List, map, map-map}
-use Prim.Native.Nat.{ℕ, _+_, _/_, _%_, _≤_, _<_}
+use Prim.Native.Nat.{ℕ, _+_, _≤_, _<_}
 use native.Mathlib.Nat.{zero-add}
 use native.Mathlib.Omega.{arith}
 use lib.Dec.{ltb, eqb}
@@ -21,7 +21,7 @@ use Rattle.forms.proofs.Joined.{lines-append}
 use Rattle.forms.proofs.LineWidths.{node-width, route-width}
 use Rattle.forms.proofs.ReadAgain.{net-read}
 use Rattle.model.specs.Lists.{All}
-use Rattle.model.specs.Network.{noNode}
+use Rattle.model.specs.Network.{noNode, placeAt, placeDestination}
 use Rattle.model.specs.NetworkText.{nodeForm, routeForm, networkForms, networkLines, networkText}
 use Rattle.model.specs.State.{fresh}
 use Rattle.model.specs.Calls.{reported, short, answered, requested, replies, roomyCall}
@@ -29,7 +29,7 @@ use Rattle.model.specs.Texts.{afterLines}
 use Rattle.model.specs.GivenBack.{IsPlace, Consistent, freshWith, AnsweredOk, GivenBack}
 use Rattle.model.proofs.Lists.{all-get}
 use Rattle.model.proofs.Tables.{total, only-width, entries-width}
-use Rattle.model.proofs.Nodes.{given-node, nodes-given, empty-place}
+use Rattle.model.proofs.Nodes.{nodes-range, empty-place}
 use Rattle.model.proofs.Reached.{reached}
 use Rattle.model.proofs.Ordered.{text-ordered}
 use Rattle.model.proofs.Gives.{lineOf, gives-after, gives-ok}
@@ -43,7 +43,7 @@ nodeMost a = 391 + length (decimal a)
 
 -- of the route at place p, its next node having two digits: there is none from a node to itself
 abbrev routeMost : ℕ → ℕ
-routeMost p = cond (eqb (p / 33 + 1) (p % 33)) 0 (13 + (length (decimal (p / 33 + 1)) + length (decimal (p % 33))))
+routeMost p = cond (eqb (placeAt p) (placeDestination p)) 0 (13 + (length (decimal (placeAt p)) + length (decimal (placeDestination p))))
 
 nodes-most : total nodeMost 1 32 ≡ 12567
 unfolding total decimal digitsOf
@@ -76,14 +76,14 @@ module _ (n : Network) (h : Consistent n) where
 
   route-most : (p : ℕ) → p < 1056 → length (joined (map formLine (routeForm p (getD (n .routes) p 0)))) ≤ routeMost p
   route-most p w =
-      let a = p / 33 + 1 in
-      let b = p % 33 in
+      let a = placeAt p in
+      let b = placeDestination p in
       let next = getD (n .routes) p 0 in
       only-width formLine (routeMost p) (ltb 0 next) (route a b next)
       (λ e.
       let r = place-routed n h p next w refl e in
       let apart = neither (eqb a b) (eqb a next) (r .1) .0 in
-      let by = within-bounds 1 32 next (given-node n next (nodes-given n a b next (r .0) .by)) in
+      let by = within-bounds 1 32 next (nodes-range n a b next (r .0) .by) in
       rw apart (simp length-append (omega (arith, route-width a b next, width-most 1 next (omega arith)))))
 
   text-width : length (networkText n) ≤ 29376

@@ -1,6 +1,6 @@
 -- Lines that are accepted one after the other, and a table that they fill. Assumes nothing.
 use mathlib.Core.Path.{_≡_, refl, sym, ap, _∙_}
-use mathlib.Core.Bool.{true, false}
+use mathlib.Core.Bool.{false}
 use mathlib.Core.List.{List, [], _∷_, _++_, map}
 use mathlib.Core.Option.{none}
 use Prim.Native.Nat.{ℕ, _+_}
@@ -19,10 +19,10 @@ use Rattle.forms.proofs.Credentials.{credentials-rising, credentials-same}
 use Rattle.forms.proofs.ReadAgain.{node-read, route-read}
 use Rattle.model.specs.Lists.{All}
 use Rattle.model.specs.Network.{given, isRouted}
-use Rattle.model.specs.Requests.{checked, withNode, withRoute, nodeTurn, routeTurn, nodesGiven, leadsBack}
+use Rattle.model.specs.Requests.{checked, withNode, withRoute, nodeTurn, routeTurn}
 use Rattle.model.specs.Calls.{answer, Reply, Call, call, answered, requested, after, replies, roomyCall}
-use Rattle.model.specs.GivenBack.{IsPlace, freshWith, AnsweredOk}
-use Rattle.model.proofs.Nodes.{Node, given-node, nodes-given, given-destination}
+use Rattle.model.specs.GivenBack.{IsPlace, Passes, freshWith, AnsweredOk}
+use Rattle.model.proofs.Nodes.{Node, nodes-range}
 
 -- ---- one line
 
@@ -47,23 +47,18 @@ node-ok n a x i g h =
       g,
     )
 
-pub route-ok : (n : Network) (a b next : ℕ) → nodesGiven n a b next ≡ true → leadsBack a b next ≡ false → isRouted n a b ≡ false
+pub route-ok : (n : Network) (a b next : ℕ) → Passes n a b next → isRouted n a b ≡ false
     → call (freshWith n) (lineOf (route a b next)) ≡ ok (freshWith (withRoute n a b next))
 unfolding answered requested routeTurn checked
-route-ok n a b next g apart free =
-    let r = nodes-given n a b next g in
-    let i = given-node n a (r .at) in
-    let j = given-destination n b (r .for) in
-    let k = given-node n next (r .by) in
+route-ok n a b next p free =
+    let r = nodes-range n a b next (p .0) in
     rw (
-      route-read a b next (within-bounds 1 32 a i .1) (within-bounds 0 32 b j .1) (within-bounds 1 32 next k .1),
-      i,
-      j,
-      k,
+      route-read a b next (within-bounds 1 32 a (r .at) .1) (within-bounds 0 32 b (r .for) .1) (within-bounds 1 32 next (r .by) .1),
       r .at,
       r .for,
       r .by,
-      apart,
+      p .0,
+      p .1,
       free,
     )
 

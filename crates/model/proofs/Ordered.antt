@@ -1,7 +1,7 @@
 -- The forms of a network's text are in order. Assumes nothing.
 use mathlib.Core.Path.{refl}
 use mathlib.Core.List.{List, [], _∷_}
-use Prim.Native.Nat.{ℕ, _+_, _/_, _%_, _<_}
+use Prim.Native.Nat.{ℕ, _<_}
 use native.Mathlib.Omega.{arith}
 use lib.Dec.{ltb}
 use Rattle.calculus.specs.Table.{entriesFrom}
@@ -10,6 +10,7 @@ use Rattle.calculus.specs.declared.network.Node.{Node}
 use Rattle.forms.specs.Text.{Form, route}
 use Rattle.forms.specs.Request.{nodeOf}
 use Rattle.model.specs.Lists.{All, Rising}
+use Rattle.model.specs.Network.{placeAt, placeDestination}
 use Rattle.model.specs.NetworkText.{nodeForm, routeForm, networkForms}
 use Rattle.model.specs.GivenBack.{formKey}
 use Rattle.model.proofs.Tables.{only-all, entries-all}
@@ -19,12 +20,12 @@ abbrev nodeAt : ℕ → Node → Form
 nodeAt a x = nodeOf a (x .kind) (x .has) (x .needs)
 
 abbrev routeAt : ℕ → ℕ → Form
-routeAt p next = route (p / 33 + 1) (p % 33) next
+routeAt p next = route (placeAt p) (placeDestination p) next
 
 routes-rise : (i j x y : ℕ) → i < j → Before formKey (routeAt i x) (routeAt j y)
 routes-rise i j x y h =
-    before-cons (i / 33 + 1) (j / 33 + 1) (i % 33 ∷ []) (j % 33 ∷ []) (omega arith)
-    (λ e. before-cons (i % 33) (j % 33) [] [] (omega arith) (λ f. absurd (omega arith)))
+    before-cons (placeAt i) (placeAt j) (placeDestination i ∷ []) (placeDestination j ∷ []) (omega arith)
+    (λ e. before-cons (placeDestination i) (placeDestination j) [] [] (omega arith) (λ f. absurd (omega arith)))
 
 -- any node's form comes before all routes' forms
 node-first : (a : ℕ) (x : Node) (l : List ℕ) → All (Before formKey (nodeAt a x)) (entriesFrom routeForm 0 l)

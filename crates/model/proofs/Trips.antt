@@ -1,17 +1,15 @@
 -- The way of a packet that goes bare from its source to its destination, and how many steps it takes. Assumes nothing.
 use mathlib.Core.Path.{_≡_, refl, sym, subst, _∙_}
 use mathlib.Core.Bool.{Bool, true, false, not}
-use Prim.Native.Nat.{ℕ, _+_, _-_, _≤_, _<_}
+use Prim.Native.Nat.{ℕ, _+_, _≤_, _<_}
 use native.Mathlib.Omega.{arith}
 use lib.Dec.{eqb}
 use borrow.Author.Tests.{eqb-true, eqb-false, eq-eqb}
 use Rattle.calculus.proofs.Tests.{never, either}
 use Rattle.calculus.specs.declared.answer.Loss.{Loss}
-use Rattle.calculus.specs.declared.effect.Outcome.the-variants.{WroteByDefault}
 use Rattle.calculus.specs.declared.effect.Effect.{Effect}
 use Rattle.calculus.specs.declared.network.Network.{Network}
 use Rattle.calculus.specs.declared.network.NextHop.{NextHop}
-use Rattle.calculus.specs.declared.network.NextHop.the-variants.{Exact, Default, Missing}
 use Rattle.calculus.specs.declared.packet.Payload.{Payload}
 use Rattle.calculus.specs.declared.packet.Packet.{Packet}
 use Rattle.calculus.specs.declared.packet.Via.the-variants.{Untunnelled}
@@ -21,7 +19,7 @@ use Rattle.calculus.specs.declared.state.Part.{Part}
 use Rattle.model.specs.Network.{isGateway, nextHop}
 use Rattle.model.specs.Packet.{hopLimit, bare}
 use Rattle.model.specs.Row.{held, newest}
-use Rattle.model.specs.Rules.{only, lost, writes, discovers, unprotected, onward, wireRule, outRule, upRule, agrees, received, inRule, rule}
+use Rattle.model.specs.Rules.{lost, writes, discovers, unprotected, onward, wireRule, outRule, upRule, agrees, received, inRule, rule}
 use Rattle.model.specs.Termination.{tripSteps}
 
 -- where it can stand, and how many steps can follow until it is received
@@ -41,18 +39,13 @@ trip-some stripped = omega arith
 pub data Travels (p : Packet) (j : ℕ) : Effect → Type 0 where
   gone : (x : Loss) → Travels p j (lost x)
   further : (k : ℕ) (i : Item) → Trip p k i → k < j → Travels p j (writes i)
-  byDefault : (k : ℕ) (i : Item) → Trip p k i → k < j → Travels p j (only (WroteByDefault i))
+  hops : (next : NextHop) (h : ℕ) → (h ≡ 0 → ⊥) → h + 3 ≡ j → Travels p j (onward next p h)
   comes : Travels p j (received (p .destination) (p .source) (p .payload))
 
 module _ (n : Network) (standing : ℕ → ℕ → Bool) (t : Part) (x z : ℕ) (y : Payload)
     (quiet : (g : Bool) (v a : ℕ) → discovers g v a y ≡ false) where
   abbrev packet : Packet
   packet = bare x z y
-
-  onward-travels : (next : NextHop) (h : ℕ) → (h ≡ 0 → ⊥) → Travels packet (h + 3) (onward next packet h)
-  onward-travels (Exact next) h k = further (h - 1 + 3) _ (onWire next (h - 1)) (omega arith)
-  onward-travels (Default next) h k = byDefault (h - 1 + 3) _ (onWire next (h - 1)) (omega arith)
-  onward-travels Missing h k = gone _
 
   -- where it is still to be sent, it is sent bare
   pub travels : {j : ℕ} {i : Item} → (tripSteps ≤ j → newest (held t) true x packet ≡ Untunnelled) → Trip packet j i → Travels packet j (rule n standing t i)
@@ -63,7 +56,7 @@ module _ (n : Network) (standing : ℕ → ℕ → Bool) (t : Part) (x z : ℕ) 
       either P (discovers (isGateway n a) (t .session .server) a y) (λ e. never (sym (quiet _ _ _) ∙ e))
       (λ e. either P (eqb a z) (λ k. subst (λ (b : ℕ). P (writes (Up b packet))) (sym (eqb-true a z k)) (further 2 _ arrived (omega arith)))
       (λ e. either P (unprotected (isGateway n a) packet) (λ e. gone _)
-      (λ e. either P (eqb h 0) (λ e. gone _) (λ e. onward-travels (nextHop n a z) h (eqb-false h 0 e)))))
+      (λ e. either P (eqb h 0) (λ e. gone _) (λ e. hops (nextHop n a z) h (eqb-false h 0 e) refl))))
   travels none arrived = further 1 _ stripped (omega arith)
   travels none stripped =
       either (Travels packet 1) (not (agrees (held t) z packet Untunnelled)) (λ e. gone _) (λ e. rw (eq-eqb z z refl) comes)

@@ -29,13 +29,16 @@ pub record IsPlace (x : Node) : Type 0 where
   pub needs : length (x .needs) ≡ 64
   pub empty : x .given ≡ false → x ≡ noNode
 
+-- refusals 4 and 8 let the route from a for b to next pass
+abbrev pub Passes : Network → ℕ → ℕ → ℕ → Type 0
+Passes n a b next = (nodesGiven n a b next ≡ true) × (leadsBack a b next ≡ false)
+
 -- the tables have their sizes, each place is one, and each route is one that refusals 4 and 8 let pass
 pub record Consistent (n : Network) : Type 0 where
   pub nodes : length (n .nodes) ≡ 32
   pub routes : length (n .routes) ≡ 1056
   pub places : All IsPlace (n .nodes)
-  pub routed : (a b : ℕ) → isNode a ≡ true → isDestination b ≡ true → isRouted n a b ≡ true
-      → (nodesGiven n a b (routeTo n a b) ≡ true) × (leadsBack a b (routeTo n a b) ≡ false)
+  pub routed : (a b : ℕ) → isNode a ≡ true → isDestination b ≡ true → isRouted n a b ≡ true → Passes n a b (routeTo n a b)
 
 -- ---- the text's order
 
@@ -73,5 +76,5 @@ pub record GivenBack : Type 0 where
   pub accepts : (n : Network) → Consistent n → All AnsweredOk (replies fresh (map roomyCall (lines (networkText n))))
   -- "Two networks are equal exactly when their texts are the same bytes"
   pub equal : (n m : Network) → Consistent n → Consistent m → (n ≡ m) ↔ (networkText n ≡ networkText m)
-  -- so it fits into the lent output, of 65,536 bytes or more
+  -- it has at most 29,376 bytes, so it fits into the lent output of 65,536
   pub fits : (n : Network) → Consistent n → length (networkText n) ≤ 29376

@@ -13,7 +13,7 @@ use Rattle.model.specs.State.{fresh}
 use Rattle.model.specs.Requests.{routeTurn}
 use Rattle.model.specs.GivenBack.{Consistent}
 
--- what the look-up says once there is a default that leads to next
+-- what the look-up says once a default that leads to next is set; one that it had stays, since a second is refused
 abbrev pub withDefault : ℕ → NextHop → NextHop
 withDefault next (Exact own) = Exact own
 withDefault next (Default other) = Default other
@@ -21,11 +21,12 @@ withDefault next Missing = Default next
 
 -- the look-up from x for y
 pub record LookUp : Type 0 where
-  pub fresh : (x y : ℕ) → nextHop (fresh .network) x y ≡ Missing
-  -- a route for a node is taken there, beside a default too, and is taken nowhere else
+  -- on a fresh state it says none
+  pub atFirst : (x y : ℕ) → nextHop (fresh .network) x y ≡ Missing
+  -- an accepted route from a for node b is what the look-up from a for b says, also beside a default; no other look-up changes
   pub exact : (s : State) (a b next : ℕ) → Consistent (s .network) → isNode b ≡ true → routeTurn s a b next .answer ≡ Ok
       → (x y : ℕ) → nextHop (routeTurn s a b next .state .network) x y ≡ cond (eqb x a && eqb y b) (Exact next) (nextHop (s .network) x y)
-  -- "(route 2 0 3) sets next 3 wherever node 2 has no route of its own", and nowhere else
+  -- "(route 2 0 3) sets next 3 wherever node 2 has no route of its own"; no other look-up changes
   pub default : (s : State) (a next : ℕ) → Consistent (s .network) → routeTurn s a 0 next .answer ≡ Ok
       → (x y : ℕ) → isNode y ≡ true
       → nextHop (routeTurn s a 0 next .state .network) x y ≡ cond (eqb x a) (withDefault next (nextHop (s .network) x y)) (nextHop (s .network) x y)

@@ -1,5 +1,5 @@
 -- The network that node and route calls gave, and what is looked up in it. Assumes nothing.
-use Prim.Native.Nat.{ℕ, _+_, _*_, _-_}
+use Prim.Native.Nat.{ℕ, _+_, _*_, _-_, _/_, _%_}
 use mathlib.Core.Bool.{Bool, true, false, cond, not, _&&_, _||_}
 use mathlib.Core.List.{List, [], _∷_}
 use lib.Dec.{ltb, eqb}
@@ -35,14 +35,21 @@ isGateway n a = isGate (nodeAt n a .kind)
 abbrev pub isDefault : ℕ → Bool
 isDefault b = eqb b 0
 
--- the place of the route from a for destination b
+-- the place of the route from node a for destination b, and the two of a place
 abbrev pub routePlace : ℕ → ℕ → ℕ
 routePlace a b = 33 * (a - 1) + b
 
--- the next node that was given from a for destination b: 0 where there is no such route
+abbrev pub placeAt : ℕ → ℕ
+placeAt p = p / 33 + 1
+
+abbrev pub placeDestination : ℕ → ℕ
+placeDestination p = p % 33
+
+-- the next node of the route from node a for destination b: 0 where none was given
 abbrev pub routeTo : Network → ℕ → ℕ → ℕ
 routeTo n a b = getD (n .routes) (routePlace a b) 0
 
+-- one was given
 abbrev pub isRouted : Network → ℕ → ℕ → Bool
 isRouted n a b = ltb 0 (routeTo n a b)
 
@@ -50,7 +57,7 @@ isRouted n a b = ltb 0 (routeTo n a b)
 abbrev pub hop : ℕ → ℕ → NextHop
 hop exact default = cond (ltb 0 exact) (Exact exact) (cond (ltb 0 default) (Default default) Missing)
 
--- "A route (at, destination, next) gives the next node.": from node a for node b
+-- "A route (at, destination, next) gives the next node.": from node a for node b, by its own route, else by a's default
 unfoldable pub nextHop : Network → ℕ → ℕ → NextHop
 nextHop n a b = cond (isNode a && isNode b) (hop (routeTo n a b) (routeTo n a 0)) Missing
 

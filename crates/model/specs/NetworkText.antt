@@ -1,5 +1,5 @@
 -- The network as text: what `(net)` writes (document 02, #101). Its promises are in GivenBack. Assumes nothing.
-use Prim.Native.Nat.{ℕ, _+_, _/_, _%_}
+use Prim.Native.Nat.{ℕ}
 use mathlib.Core.List.{List, _++_, map}
 use lib.Dec.{ltb}
 use Rattle.calculus.specs.Table.{entriesFrom, onlyIf}
@@ -8,15 +8,15 @@ use Rattle.calculus.specs.declared.network.Node.{Node}
 use Rattle.forms.specs.Bytes.{joined}
 use Rattle.forms.specs.Text.{Form, route, formLine}
 use Rattle.forms.specs.Request.{nodeOf}
+use Rattle.model.specs.Network.{placeAt, placeDestination}
 
 -- the form that gives node a, if it was given
 abbrev pub nodeForm : ℕ → Node → List Form
 nodeForm a x = onlyIf (x .given) (nodeOf a (x .kind) (x .has) (x .needs))
 
--- the form that gives the route at place p of the table, which leads to next, if there is one: p is `routePlace` of its at and its
--- destination, so a default is the first of its node's routes
+-- the form that gives the route at place p of the table, which leads to next, if there is one; a default is its node's first
 abbrev pub routeForm : ℕ → ℕ → List Form
-routeForm p next = onlyIf (ltb 0 next) (route (p / 33 + 1) (p % 33) next)
+routeForm p next = onlyIf (ltb 0 next) (route (placeAt p) (placeDestination p) next)
 
 -- "in its own forms": "nodes rising, then routes by at, then by destination"
 abbrev pub networkForms : Network → List Form

@@ -72,9 +72,13 @@ nodeChecks opened n a = (opened, Late) ∷ (given n a, Double) ∷ []
 unfoldable pub nodeTurn : State → ℕ → Kind → List Bool → List Bool → Turn
 nodeTurn s a k has needs = checked (refused s) (nodeChecks (s .opened) (s .network) a) (accepted s (withNode (s .network) a k has needs))
 
--- the nodes of a route are given: destination 0 "needs no node"
+-- a route's destination is given: 0 "needs no node"
+abbrev pub destinationGiven : Network → ℕ → Bool
+destinationGiven n b = isDefault b || given n b
+
+-- the nodes of a route are given
 abbrev pub nodesGiven : Network → ℕ → ℕ → ℕ → Bool
-nodesGiven n a b next = given n a && ((isDefault b || given n b) && given n next)
+nodesGiven n a b next = given n a && (destinationGiven n b && given n next)
 
 -- it leads from a node for that node, or to that node
 abbrev pub leadsBack : ℕ → ℕ → ℕ → Bool

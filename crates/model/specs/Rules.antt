@@ -91,14 +91,15 @@ begin a p e = record { outcome = WroteTwo (Dwait a) (Est a p e); wait = NoWait; 
 abbrev pub unprotected : Bool → Packet → Bool
 unprotected gateway p = gateway && (isBare (p .header) && isDataOrDone (p .payload))
 
--- the case of a packet that moves, by what the look-up says: "Lost 3 is left for neither"
+-- the last two cases, by what the look-up says: "Lost 3 is left for neither"
 abbrev pub onward : NextHop → Packet → ℕ → Effect
 onward (Exact next) p hops = writes (Wire next p (hops - 1))
 onward (Default next) p hops = only (WroteByDefault (Wire next p (hops - 1)))
 onward Missing p hops = lost NoRoute
 
--- wire(a, packet, h), where `look` gives a's next hop for a node: "the first that fits". No list of calls tells the order of lost 1 and lost 2: bare Data or Done is lost at the
--- first gateway, and with one of the 32 nodes a gateway it comes there before its 32 hops are over, or never
+-- wire(a, packet, h), where `look` gives a's next hop for a node: "the first that fits". No list of calls tells the order of lost 1 and
+-- lost 2: bare Data or Done is lost at the first gateway, and with one of the 32 nodes a gateway it comes there before its 32 hops are
+-- over, or never
 unfoldable pub wireRule : Bool → (ℕ → NextHop) → Session → ℕ → Packet → ℕ → Effect
 wireRule gateway look s a p h =
     cond (discovers gateway (s .server) a (p .payload))

@@ -191,7 +191,7 @@ LeadsToGiven n Missing = Unit
 
 -- of the network n; it follows from `Consistent` of GivenBack, and is what the rules rest on
 pub record HoldsNetwork (n : Network) : Type 0 where
-  -- a route leads to a node that was given
+  -- a route, or a default, leads to a node that was given
   pub routes : (a b : ℕ) → LeadsToGiven n (nextHop n a b)
   -- a gateway is a node that was given
   pub gateways : (a : ℕ) → isGateway n a ≡ true → given n a ≡ true

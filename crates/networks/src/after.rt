@@ -3,10 +3,10 @@ use calculus::answer::Answer;
 use calculus::network::Kind;
 use calculus::network::Network;
 use calculus::network::Node;
+use calculus::number::before;
 use calculus::request::Request;
 use forms::read::Parsed;
 use forms::read::Reading;
-use lookups::network::node_place;
 use lookups::network::route_place;
 ghost use mathlib.Core.Path.{_≡_};
 ghost use mathlib.Core.Bool.{cond};
@@ -17,7 +17,7 @@ ghost use Rattle.model.specs.Turn as turns;
 fn with_node(n: Network, a: u8, kind: Kind, has: [bool; 64], needs: [bool; 64]) -> Network
     ensures { λ r. ⌜ r ≡ spec.withNode n a kind has needs ⌝ }
 {
-    let at = node_place(a);
+    let at = before(a) as usize;
     let mut next = n;
     if at < 32 {
         let node = Node {

@@ -5,14 +5,14 @@ use calculus::network::Network;
 use lookups::network::given;
 use lookups::network::route_to;
 ghost use mathlib.Core.Path.{_≡_};
-ghost use mathlib.Core.Bool.{not, _||_};
+ghost use mathlib.Core.Bool.{not};
 ghost use Rattle.calculus.specs.declared.answer.Answer.the-variants.{Ok, No};
 ghost use Rattle.model.specs.Network as network;
 ghost use Rattle.model.specs.Requests as spec;
 
 // Whether the destination is 0, or a node that was given.
 fn is_destination_given(n: Network, b: u8) -> bool
-    ensures { λ r. ⌜ r ≡ (network.isDefault b || network.given n b) ⌝ }
+    ensures { λ r. ⌜ r ≡ spec.destinationGiven n b ⌝ }
 {
     if b == 0 {
         return true;

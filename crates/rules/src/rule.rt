@@ -7,7 +7,6 @@ use calculus::packet::Item;
 use calculus::packet::Packet;
 use calculus::packet::Side;
 use calculus::session::Row;
-use calculus::session::Session;
 use calculus::state::Part;
 use effects::effect::lost;
 use establishments::ack;

@@ -5,6 +5,7 @@ use crate::terms;
 use simulator_bench::runs::Outcome;
 use simulator_tests::form::Form;
 use simulator_tests::lists::{list, LateNetwork};
+use simulator_tests::network::DEFAULT;
 use simulator_tests::simulator::Simulator;
 
 const LISTINGS: usize = 9;
@@ -41,7 +42,7 @@ pub fn check_random_lists() -> Outcome<()> {
     for index in 0..RANDOM_LISTS {
         let mut calls = list(SEED, index, RANDOM_LENGTH, LateNetwork::Yes).calls;
         calls.retain(|call| {
-            Form::read(call).is_some_and(|form| !matches!(form, Form::Net | Form::Route { destination: 0, .. }))
+            Form::read(call).is_some_and(|form| !matches!(form, Form::Net | Form::Route { destination: DEFAULT, .. }))
         });
         compare(&calls)?;
         count += calls.len();

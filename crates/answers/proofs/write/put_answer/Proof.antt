@@ -2,7 +2,7 @@
 use native.Mathlib.Omega.{arith}
 use borrow.Author.Needs.{needs}
 use Rattle.forms.specs.Answer.{answerText}
-use Rattle.answers.proofs.Widths.{line-one, line-two, by-default-width}
+use Rattle.answers.proofs.Widths.{line-one, line-two, made-by-default-width}
 use Rattle.answers.proofs.write.put_answer.Statement.{statement}
 use Rattle.answers.proofs.write.put_answer.Tie as tie
 
@@ -11,10 +11,10 @@ put-one-requires c κs =
     let c₄ = c .before .before .before .before in
     omega (arith, line-one (c₄ .answer .given .0 .0 .0) (omega arith))
 
-put-by-default-requires : tie.Need-put-by-default-requires
-put-by-default-requires c κs =
+put-made-by-default-requires : tie.Need-put-made-by-default-requires
+put-made-by-default-requires c κs =
     let n = c .before .before .before .answer2 .given .0 .0 .0 in
-    omega (arith, by-default-width n (omega arith))
+    omega (arith, made-by-default-width n (omega arith))
 
 put-line-requires : tie.Need-put-line-requires
 put-line-requires c κs =
@@ -48,7 +48,7 @@ returns-3 : tie.Need-returns-3
 unfolding answerText
 returns-3 c =
     let c₆ = c .before .before .before .before .before .before in
-    rw (c₆ .answer2 .given .1) (c .before .before .put-by-default .ensures)
+    rw (c₆ .answer2 .given .1) (c .before .before .put-made-by-default .ensures)
 
 returns-4 : tie.Need-returns-4
 unfolding answerText
@@ -110,7 +110,7 @@ put-answer-spec =
     put-one-requires
     (λ c. search needs)
     (λ c. search needs)
-    put-by-default-requires
+    put-made-by-default-requires
     (λ c. search needs)
     (λ c. search needs)
     (λ c. search needs)
