@@ -46,7 +46,7 @@ pub fn is_tag(n: u64) -> bool
 }
 
 // `n` − 1, and 0 of 0.
-pub fn before(n: u8) -> u8
+pub fn pred(n: u8) -> u8
     ensures { λ r. ⌜ r ≡ n - 1 ⌝ }
 {
     if n == 0 { 0 } else { n - 1 }

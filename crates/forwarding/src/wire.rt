@@ -7,7 +7,7 @@ use calculus::effect::Outcome;
 use calculus::effect::Wait;
 use calculus::network::Network;
 use calculus::network::NextHop;
-use calculus::number::before;
+use calculus::number::pred;
 use calculus::packet::Item;
 use calculus::packet::Packet;
 use calculus::packet::Payload;
@@ -88,11 +88,11 @@ fn onward(next: NextHop, p: Packet, hops: u8) -> Effect
 {
     match next {
         NextHop::Exact(node) => {
-            let left = before(hops);
+            let left = pred(hops);
             writes(Item::Wire(node, p, left))
         }
         NextHop::Default(node) => {
-            let left = before(hops);
+            let left = pred(hops);
             only(Outcome::WroteByDefault(Item::Wire(node, p, left)))
         }
         NextHop::Missing => lost(Loss::NoRoute),

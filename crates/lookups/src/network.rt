@@ -3,8 +3,8 @@ use calculus::network::Kind;
 use calculus::network::Network;
 use calculus::network::NextHop;
 use calculus::network::Node;
-use calculus::number::before;
 use calculus::number::is_node;
+use calculus::number::pred;
 ghost use mathlib.Core.Path.{_≡_};
 ghost use mathlib.Core.Bool.{not, _||_};
 ghost use Rattle.model.specs.Network as spec;
@@ -62,7 +62,7 @@ pub fn is_gateway(n: Network, a: u8) -> bool
 pub fn route_place(a: u8, b: u8) -> usize
     ensures { λ r. ⌜ r ≡ spec.routePlace a b ⌝ }
 {
-    33 * before(a) as usize + b as usize
+    33 * pred(a) as usize + b as usize
 }
 
 // The next node of the route from node `a` for destination `b`, 0 where none was given; past the end of the table there is none.
@@ -77,13 +77,15 @@ pub fn route_to(n: Network, a: u8, b: u8) -> u8
     0
 }
 
-// The exact route before the default; the next node of either is 0 where there is none.
-fn hop(exact: u8, default: u8) -> NextHop
-    ensures { λ r. ⌜ r ≡ spec.hop exact default ⌝ }
+// By a route of its own, else by the default, which is asked only then.
+fn hop(n: Network, a: u8, b: u8) -> NextHop
+    ensures { λ r. ⌜ r ≡ spec.hop (spec.routeTo n a b) (spec.routeTo n a 0) ⌝ }
 {
+    let exact = route_to(n, a, b);
     if 0 < exact {
         return NextHop::Exact(exact);
     }
+    let default = route_to(n, a, 0);
     if 0 < default {
         return NextHop::Default(default);
     }
@@ -96,9 +98,7 @@ pub fn next_hop(n: Network, a: u8, b: u8) -> NextHop
 {
     if is_node(a as u64) {
         if is_node(b as u64) {
-            let exact = route_to(n, a, b);
-            let default = route_to(n, a, 0);
-            return hop(exact, default);
+            return hop(n, a, b);
         }
     }
     NextHop::Missing

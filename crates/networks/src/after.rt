@@ -3,7 +3,7 @@ use calculus::answer::Answer;
 use calculus::network::Kind;
 use calculus::network::Network;
 use calculus::network::Node;
-use calculus::number::before;
+use calculus::number::pred;
 use calculus::request::Request;
 use forms::read::Parsed;
 use forms::read::Reading;
@@ -17,7 +17,7 @@ ghost use Rattle.model.specs.Turn as turns;
 fn with_node(n: Network, a: u8, kind: Kind, has: [bool; 64], needs: [bool; 64]) -> Network
     ensures { λ r. ⌜ r ≡ spec.withNode n a kind has needs ⌝ }
 {
-    let at = before(a) as usize;
+    let at = pred(a) as usize;
     let mut next = n;
     if at < 32 {
         let node = Node {

@@ -8,13 +8,10 @@ use Rattle.lookups.proofs.network.next_hop.Tie as tie
 returns : tie.Need-returns
 unfolding nextHop
 returns c =
-    let c₃ = c .before .before .before in
     simp (
       c .hop .ensures,
-      c .before .route-to2 .ensures,
-      c .before .before .route-to .ensures,
-      join (c₃ .before .is-node2 .ensures) (c₃ .if2 .taken),
-      join (c₃ .before .before .before .is-node .ensures) (c₃ .before .before .if1 .taken),
+      join (c .before .before .is-node2 .ensures) (c .before .if2 .taken),
+      join (c .before .before .before .before .is-node .ensures) (c .before .before .before .if1 .taken),
     )
 
 returns-2 : tie.Need-returns-2
@@ -32,4 +29,4 @@ returns-3 c = simp (join (c .before .is-node .ensures) (c .if1 .left))
 pub next-hop-spec : {M : Type 1} → statement M
 next-hop-spec =
     tie.close
-    (tie.spec (λ c κs. search needs) (λ c κs. search needs) (λ c κs. search needs) (λ c κs. search needs) (λ c κs. search needs) returns returns-2 returns-3)
+    (tie.spec (λ c κs. search needs) (λ c κs. search needs) (λ c κs. search needs) returns returns-2 returns-3)

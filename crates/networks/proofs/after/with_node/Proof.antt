@@ -7,12 +7,12 @@ use Rattle.networks.proofs.after.with_node.Statement.{statement}
 use Rattle.networks.proofs.after.with_node.Tie as tie
 
 returns : tie.Need-returns
-returns c = simp (c .before .before2 .ensures)
+returns c = simp (c .before .pred .ensures)
 
 returns-2 : tie.Need-returns-2
 returns-2 c =
     let x = c .before .before .args in
-    let h : 32 ≤ x .a - 1 = rw (c .before .before2 .ensures) at (c .if1 .left) in
+    let h : 32 ≤ x .a - 1 = rw (c .before .pred .ensures) at (c .if1 .left) in
     rw (set-out (x .n .nodes) (x .a - 1) _ (search (needs, upto-mapped, h)))
 
 pub with-node-spec : {M : Type 1} → statement M
