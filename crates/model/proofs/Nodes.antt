@@ -3,13 +3,14 @@ use mathlib.Core.Path.{_≡_, refl}
 use mathlib.Core.Bool.{Bool, true, false, cond, _&&_}
 use Prim.Native.Nat.{ℕ, _-_}
 use native.Mathlib.Omega.{arith}
+use lib.Dec.{ltb}
 use borrow.Author.Tests.{eqb-true}
 use lib.ListN.{getD}
 use Rattle.calculus.proofs.Tests.{Way, is, isnt, way, both, never, either, bounds-within, within-bounds}
 use Rattle.calculus.specs.Number.{isNode, isDestination}
 use Rattle.calculus.specs.declared.network.Network.{Network}
 use Rattle.calculus.specs.declared.network.Node as declared
-use Rattle.model.specs.Network.{noNode, nodeAt, given, isGate, isDefault, routeTo, isRouted, nextHop}
+use Rattle.model.specs.Network.{noNode, nodeAt, given, isGate, isDefault, routeTo, isRouted, hop, nextHop}
 use Rattle.model.specs.Requests.{destinationGiven, nodesGiven}
 use Rattle.model.specs.SetUp.{LeadsToGiven, HoldsNetwork}
 use Rattle.model.specs.GivenBack.{IsPlace, Consistent}
@@ -77,6 +78,17 @@ place-gateway x h g = go (way (x .given))
     go (is e) = e
     go (isnt e) = never (rw (h .empty e) at g)
 
+-- whichever of the two routes is taken; the order in which they are asked is for `LookUp` and the listings to tell
+either-given : (n : Network) (exact default : ℕ) → (ltb 0 exact ≡ true → given n exact ≡ true) → (ltb 0 default ≡ true → given n default ≡ true)
+    → LeadsToGiven n (hop exact default)
+either-given n exact default i j = go (way (ltb 0 exact)) (way (ltb 0 default))
+  where
+    go : Way (ltb 0 exact) → Way (ltb 0 default) → LeadsToGiven n (hop exact default)
+    go (is e) (is f) = simp (e, f) (search (i e, j f))
+    go (is e) (isnt f) = simp (e, f) (i e)
+    go (isnt e) (is f) = simp (e, f) (j f)
+    go (isnt e) (isnt f) = simp (e, f) tt
+
 module _ (n : Network) (h : Consistent n) where
   leads : (a b : ℕ) → Node a → Destination b → isRouted n a b ≡ true → given n (routeTo n a b) ≡ true
   leads a b i j e = nodes-given n a b (routeTo n a b) (h .routed a b i j e .0) .by
@@ -84,11 +96,10 @@ module _ (n : Network) (h : Consistent n) where
   pub hop-given : (a b : ℕ) → LeadsToGiven n (nextHop n a b)
   unfolding nextHop
   hop-given a b =
-      let P = LeadsToGiven n in
-      either P (isNode a && isNode b)
+      either (LeadsToGiven n) (isNode a && isNode b)
       (λ e.
       let k = both (isNode a) (isNode b) e in
-      either P (isRouted n a b) (leads a b (k .0) (node-destination b (k .1))) (λ w. either P (isRouted n a 0) (leads a 0 (k .0) refl) (λ w. tt)))
+      either-given n (routeTo n a b) (routeTo n a 0) (leads a b (k .0) (node-destination b (k .1))) (leads a 0 (k .0) refl))
       (λ e. tt)
 
   pub network-holds : HoldsNetwork n
