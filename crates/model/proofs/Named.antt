@@ -2,7 +2,7 @@
 use mathlib.Core.Path.{_≡_, refl, sym, ap, _∙_}
 use mathlib.Core.Bool.{Bool, true, false, not, _&&_}
 use mathlib.Core.List.{List}
-use Prim.Native.Nat.{ℕ, _-_, _≤_}
+use Prim.Native.Nat.{ℕ, _≤_}
 use native.Mathlib.Omega.{arith}
 use lib.Dec.{eqb}
 use borrow.Author.Tests.{eqb-true, eqb-false}
@@ -111,13 +111,10 @@ arrives v gateway a (Disc p) d h k o t =
 arrives v gateway a Done d h k o t = refl
 arrives v gateway a (Data tag) d h k o t = refl
 
-moved-named : (v a next : ℕ) (p : Packet) (h : ℕ) → Node next → Named v (Wire a p h) → Named v (Wire next p (h - 1))
-moved-named v a next p h k o = (k, o .1, o .2, omega (arith, o .3))
-
 onward-named : (n : Network) (v : ℕ) (next : NextHop) (a : ℕ) (p : Packet) (h : ℕ) → LeadsToGiven n next → Named v (Wire a p h)
     → EffectNamed v (onward next p h)
-onward-named n v (Exact next) a p h k o = (moved-named v a next p h (given-node n next k) o, tt)
-onward-named n v (Default next) a p h k o = (moved-named v a next p h (given-node n next k) o, tt)
+onward-named n v (Exact next) a p h k o = ((given-node n next k, o .1, o .2, omega (arith, o .3)), tt)
+onward-named n v (Default next) a p h k o = ((given-node n next k, o .1, o .2, omega (arith, o .3)), tt)
 onward-named n v Missing a p h k o = (tt, tt)
 
 wire-named : (n : Network) (s : Session) (a : ℕ) (p : Packet) (h : ℕ) → LeadsToGiven n (nextHop n a (target p)) → Named (s .server) (Wire a p h)
