@@ -16,4 +16,5 @@ pub mod recorder;
 pub mod script;
 pub mod simulator;
 pub mod small;
+pub mod source;
 pub mod topology;

@@ -1,11 +1,13 @@
 -- Laws of texts put into an output, part by part. Assumes nothing.
 use mathlib.Core.Path.{_≡_, refl, sym, ap, _∙_}
-use mathlib.Core.List.{List, [], _∷_, _++_}
+use mathlib.Core.List.{List, [], _∷_, _++_, append-assoc}
 use Prim.Native.Nat.{ℕ, suc, _+_}
 use native.Mathlib.Nat.{add-zero}
 use native.Mathlib.Omega.{arith}
 use lib.ListN.{length, set, length-append}
 use lib.Seq.{sets, length-sets}
+use Rattle.forms.specs.Text.{numberText, listText}
+use Rattle.forms.specs.Answer.{lineText}
 use Rattle.answers.specs.Put.{Put}
 
 -- a text in two parts is put part by part
@@ -40,3 +42,10 @@ put-none {at = at} = record { place = sym (add-zero at); bytes = refl }
 
 pub put-append : {l m n bs cs : List ℕ} {at p q : ℕ} → Put l at bs m p → Put m p cs n q → Put l at (bs ++ cs) n q
 put-append {cs = cs} e f = left-last f (left-part cs e left-all)
+
+-- a line is put by its word and first number, then the line of the others
+pub put-more : {l m k : List ℕ} {at p q : ℕ} (word : List ℕ) (n : ℕ) (ns : List ℕ) → Put l at (word ++ numberText n) m p
+    → Put m p (lineText [] ns) k q
+    → Put l at (lineText word (n ∷ ns)) k q
+unfolding listText
+put-more word n ns e f = simp append-assoc (simp append-assoc at (put-append e f))

@@ -26,7 +26,7 @@ use Rattle.forms.proofs.Decimal.{width-most}
 use Rattle.forms.proofs.Lists.{list-end, width-list}
 use Rattle.forms.proofs.LineWidths.{node-width, route-width, association-width}
 
-width-line : (ns : List ℕ) → length (lineText [] ns) ≡ length (listText ns) + 1
+pub width-line : (ns : List ℕ) → length (lineText [] ns) ≡ length (listText ns) + 1
 width-line ns = length-append (listText ns) (bytes "\n")
 
 -- ---- a line's numbers, behind its word

@@ -5,7 +5,6 @@ ghost use mathlib.Core.Path.{_≡_};
 ghost use mathlib.Core.List.{[], _∷_, _++_};
 ghost use lib.ListN.{length};
 ghost use Rattle.forms.specs.Bytes.{decimal};
-ghost use Rattle.forms.specs.Text.{listText};
 ghost use Rattle.forms.specs.Answer.{lineText};
 ghost use Rattle.answers.specs.Put.{Put};
 
@@ -66,37 +65,23 @@ pub fn put_numbered(out: &mut [u8], at: usize, word: &[u8], n: u64) -> usize
     put_number(out, next, n)
 }
 
-// Each number behind a space, then a closing bracket.
-pub fn put_numbers(out: &mut [u8], at: usize, ns: &[u64]) -> usize
-    requires { ⌜ at + length (listText (now ns)) ≤ length (now out) ⌝ }
-    ensures { λ r. ⌜ Put (now (out .entry)) at (listText (now (ns .entry))) (now (out .exit)) r ⌝ }
-{
-    let mut next = at;
-    let mut i = 0;
-    while i < ns.len() {
-        let n = ns[i];
-        let behind = put_byte(out, next, b' ');
-        next = put_number(out, behind, n);
-        i += 1;
-    }
-    put_byte(out, next, b')')
-}
-
-// A word, its numbers and a newline.
-pub fn put_line(out: &mut [u8], at: usize, word: &[u8], ns: &[u64]) -> usize
-    requires { ⌜ at + length (lineText (now word) (now ns)) ≤ length (now out) ⌝ }
-    ensures { λ r. ⌜ Put (now (out .entry)) at (lineText (now (word .entry)) (now (ns .entry))) (now (out .exit)) r ⌝ }
-{
-    let p = put_word(out, at, word);
-    let q = put_numbers(out, p, ns);
-    put_byte(out, q, b'\n')
-}
-
 // A word, one number and a newline.
 pub fn put_one(out: &mut [u8], at: usize, word: &[u8], n: u64) -> usize
     requires { ⌜ at + length (lineText (now word) (n ∷ [])) ≤ length (now out) ⌝ }
     ensures { λ r. ⌜ Put (now (out .entry)) at (lineText (now (word .entry)) (n ∷ [])) (now (out .exit)) r ⌝ }
 {
-    let ns = [n];
-    put_line(out, at, word, &ns)
+    let p = put_word(out, at, word);
+    let q = put_numbered(out, p, b" ", n);
+    put_word(out, q, b")\n")
+}
+
+// A word, three numbers and a newline.
+pub fn put_three(out: &mut [u8], at: usize, word: &[u8], a: u64, b: u64, c: u64) -> usize
+    requires { ⌜ at + length (lineText (now word) (a ∷ b ∷ c ∷ [])) ≤ length (now out) ⌝ }
+    ensures { λ r. ⌜ Put (now (out .entry)) at (lineText (now (word .entry)) (a ∷ b ∷ c ∷ [])) (now (out .exit)) r ⌝ }
+{
+    let p = put_word(out, at, word);
+    let q = put_numbered(out, p, b" ", a);
+    let r = put_numbered(out, q, b" ", b);
+    put_one(out, r, b"", c)
 }

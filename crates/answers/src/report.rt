@@ -1,8 +1,8 @@
 // The lines of reports, written straight into the caller's slice. Each `write_` answers the place behind its line; where fewer bytes
 // are left than its longest line may have, it writes nothing and answers `at`.
 use crate::put::put_byte;
-use crate::put::put_line;
 use crate::put::put_numbered;
+use crate::put::put_three;
 use crate::put::put_word;
 use crate::room::LONGEST;
 use crate::room::LONGEST_NODE;
@@ -40,8 +40,7 @@ fn put_association(out: &mut [u8], at: usize, x: ShownAssociation) -> usize
 {
     let p = put_numbered(out, at, b"(assoc ", x.node as u64);
     let q = put_direction(out, p, x.out);
-    let ns = [x.peer as u64, x.spi.0 as u64, x.users as u64];
-    put_line(out, q, b"", &ns)
+    put_three(out, q, b"", x.peer as u64, x.spi.0 as u64, x.users as u64)
 }
 
 // Writes an association's line.
@@ -143,8 +142,14 @@ pub fn write_route(out: &mut [u8], at: usize, from: u8, destination: u8, hop: u8
     ensures { λ r. ⌜ Writes 32 (now (out .entry)) at (formLine (form.route from destination hop)) (now (out .exit)) r ⌝ }
 {
     if has_room(out.len(), at, LONGEST) {
-        let ns = [from as u64, destination as u64, hop as u64];
-        return put_line(out, at, b"(route", &ns);
+        return put_three(
+            out,
+            at,
+            b"(route",
+            from as u64,
+            destination as u64,
+            hop as u64,
+        );
     }
     at
 }

@@ -1,5 +1,4 @@
 // An answer's line, written straight into the caller's slice.
-use crate::put::put_line;
 use crate::put::put_numbered;
 use crate::put::put_one;
 use crate::put::put_word;
@@ -31,8 +30,8 @@ fn put_answer(out: &mut [u8], at: usize, answer: Answer) -> usize
         Answer::Made(item) => put_one(out, at, b"(made", item.0 as u64),
         Answer::MadeByDefault(item) => put_made_by_default(out, at, item.0 as u64),
         Answer::MadeTwo(item, next) => {
-            let ns = [item.0 as u64, next.0 as u64];
-            put_line(out, at, b"(made", &ns)
+            let behind = put_numbered(out, at, b"(made ", item.0 as u64);
+            put_one(out, behind, b"", next.0 as u64)
         }
         Answer::Lost(loss) => put_one(out, at, b"(lost", loss.number() as u64),
         Answer::Denied => put_word(out, at, b"(denied)\n"),

@@ -19,20 +19,19 @@ put-direction-requires c κs =
     let c₈ = c .before .before .before .before .before .before .before .before in
     omega (arith, simp length-append at (c₈ .pre))
 
-put-line-requires : tie.Need-put-line-requires
+put-three-requires : tie.Need-put-three-requires
 unfolding associationLine
-put-line-requires c κs =
-    let c₉ = c .before .before .before .before .before .before .before .before .before in
-    let c₁₇ = c₉ .before .before .before .before .before .before .before .before in
-    simp length-append (omega (arith, simp length-append at (c₁₇ .pre)))
+put-three-requires c κs =
+    let c₁₆ = c .before .before .before .before .before .before .before .before .before .before .before .before .before .before .before .before in
+    simp length-append (omega (arith, simp length-append at (c₁₆ .pre)))
 
 returns : tie.Need-returns
 unfolding associationLine
 returns c =
-    let c₁₁ = c .before .before .before .before .before .before .before .before .before .before .before in
-    let c₁₅ = c₁₁ .before .before .before .before in
-    put-append (c₁₅ .put-numbered .ensures)
-    (put-append (c₁₁ .put-direction .ensures) (put-append (c .before .before .put-line .ensures) put-none))
+    let c₁₀ = c .before .before .before .before .before .before .before .before .before .before in
+    let c₁₄ = c₁₀ .before .before .before .before in
+    put-append (c₁₄ .put-numbered .ensures)
+    (put-append (c₁₀ .put-direction .ensures) (put-append (c .before .before .put-three .ensures) put-none))
 
 pub put-association-spec : {M : Type 1} → statement M
 put-association-spec =
@@ -46,7 +45,6 @@ put-association-spec =
     (λ c. search needs)
     (λ c. search needs)
     (λ c. search needs)
-    (λ c. search needs)
-    put-line-requires
+    put-three-requires
     (λ c. search needs)
     returns)

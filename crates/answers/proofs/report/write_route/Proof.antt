@@ -18,17 +18,15 @@ few c = route-short _ _ _ (search needs) (search needs) (search needs)
 room : (c : tie.Then1) → let x = c .before .before .before .args in x .at + 32 ≤ length (x .out .now)
 room c = leb-true _ _ (join (c .before .has-room .ensures) (c .if1 .taken))
 
-put-line-requires : tie.Need-put-line-requires
+put-three-requires : tie.Need-put-three-requires
 unfolding text
-put-line-requires c κs =
-    let c₃ = c .before .before .before in
-    omega (arith, room c₃, few (c₃ .before .before .before))
+put-three-requires c κs = omega (arith, room (c .before .before), few (c .before .before .before .before .before))
 
 returns : tie.Need-returns
 unfolding text
 returns c =
-    let c₆ = c .before .before .before .before .before .before in
-    writes-put (room c₆) (c .before .before .put-line .ensures) (few (c₆ .before .before .before))
+    let c₅ = c .before .before .before .before .before in
+    writes-put (room c₅) (c .before .before .put-three .ensures) (few (c₅ .before .before .before))
 
 returns-2 : tie.Need-returns-2
 returns-2 c = writes-none (join (c .before .has-room .ensures) (c .if1 .left))
@@ -36,4 +34,4 @@ returns-2 c = writes-none (join (c .before .has-room .ensures) (c .if1 .left))
 pub write-route-spec : {M : Type 1} → statement M
 write-route-spec =
     tie.close
-    (tie.spec (λ c κs. search needs) (λ c. search needs) (λ c. search needs) put-line-requires (λ c. search needs) returns returns-2)
+    (tie.spec (λ c κs. search needs) (λ c. search needs) put-three-requires (λ c. search needs) returns returns-2)
