@@ -13,10 +13,22 @@ const CASES: [&str; 2] = ["call_cases", "form_cases"];
 const WRITERS: [&str; 2] = ["answers", "reports"];
 const OWN: &str = "answers/src/put.rt";
 
-/// What arrays hold, by type or by the value that fills them.
-const HELD: [&str; 16] = [
-    "bool", "false", "u16", "u64", "0u64", "Node", "node", "Part", "first", "Row", "row", "Session", "session", "Slot",
-    "slot", "blank",
+/// What the arrays hold that fields, parameters and results are.
+const HELD: [&str; 8] = ["bool", "u16", "u64", "Node", "Part", "Row", "Session", "Slot"];
+
+/// What arrays are made of, and in which crate: the numbers and credentials of a form that is read, and tables.
+const MADE: [(&str, &str); 11] = [
+    ("forms", "0u64"),
+    ("forms", "false"),
+    ("lookups", "false"),
+    ("lookups", "slot"),
+    ("lookups", "row"),
+    ("tables", "slot"),
+    ("tables", "row"),
+    ("tables", "node"),
+    ("tables", "session"),
+    ("tables", "blank"),
+    ("tables", "first"),
 ];
 
 /// Other arrays, each by its crate.
@@ -84,10 +96,11 @@ impl Search {
         // a slice of bytes is lent
         for (at, array) in arrays(code).filter(|(_, array)| *array != "u8") {
             let line = line_at(code, at);
-            let held = array.split(&[';', ','][..]).next().unwrap_or_default().trim();
-            let held = HELD.into_iter().find(|known| *known == held);
-            let named = NAMED.iter().find(|(owner, named)| *owner == source.owner() && line.contains(named));
-            self.note(held.or(named.map(|(_, named)| *named)), source, line);
+            let element = array.split(&[';', ','][..]).next().unwrap_or_default().trim();
+            let held = HELD.into_iter().find(|held| *held == element);
+            let made = MADE.into_iter().find(|made| *made == (source.owner(), element));
+            let named = NAMED.into_iter().find(|(owner, named)| *owner == source.owner() && line.contains(named));
+            self.note(held.or(made.or(named).map(|(_, name)| name)), source, line);
         }
         for (at, _) in code.match_indices("*b\"") {
             self.note(None, source, line_at(code, at));
@@ -151,7 +164,7 @@ fn no_buffer_of_bytes_between_an_outcome_and_the_callers_slice() {
     let search = Search::over(&searched());
     assert!(search.found.is_empty(), "{:#?}", search.found);
     // what is named is there, so that no name outlives what it stood for
-    let names = NAMED.into_iter().chain(TOUCHED).map(|(_, name)| name);
+    let names = MADE.into_iter().chain(NAMED).chain(TOUCHED).map(|(_, name)| name);
     for name in names.chain(HELD).chain(["a word"]) {
         assert!(search.seen.contains(name), "{name} is not there any more");
     }
@@ -163,6 +176,7 @@ fn a_buffer_put_in_is_found() {
     let planted = [
         ("answers/src/write.rt", "    match answer {", "let mut line = [0u8; 32];", "[0u8; 32]"),
         ("answers/src/put.rt", "    put_byte(out, next, last)", "let line = [last];", "[last]"),
+        ("reports/src/network.rt", "    if node.given {", "let digits = [0u64; 32];", "[0u64; 32]"),
         ("answers/src/room.rt", "    if size < room", "let mut word = *b\"(made\";", "*b\"\""),
         ("calculus/src/answer.rt", "    pub spi: Spi,", "pub line: [u8; 32],", "[u8; 32]"),
         ("simulator/src/calls.rt", "    pub read: usize,", "pub lines: [Line; 4],", "[Line; 4]"),
