@@ -1,4 +1,4 @@
-//! A second implementation of document 01 and requests #101 to #105 of document 02, written from the documents alone,
+//! A second implementation of document 01 and requests #101 to #104 of document 02, written from the documents alone,
 //! and what the tests share.
 
 pub mod calculus;

@@ -1,200 +1,227 @@
 //! #105: a line is written straight into the caller's slice, with no buffer of bytes of the simulator's own between. The source is
-//! searched for one. The language has no heap, no global that changes, no iterator and no call that copies a slice: so bytes can
-//! be kept only in an array, and copied only one by one, by a function that has bytes to write. Whatever of that the source has is
-//! named below as what it is; anything else is found.
+//! searched for one. The language has no heap and no global that changes, so a buffer is an array, and bytes come into it, or into
+//! a slice, by a store, by a lend or by a call of the toolchain's libraries. Each of those that the source has is named below as
+//! what it is; any other is found.
 
-use simulator_tests::source::{arrays, calls, elements, files, functions, line_at, Function, Source};
+use simulator_tests::script::here;
+use simulator_tests::source::{inside, is_named, places, sources, Source};
 use std::collections::BTreeSet;
+use std::fs;
 
 /// Programs that the gate runs to print what single calls of the library write: no answer of the simulator goes through them.
 const CASES: [&str; 2] = ["call_cases", "form_cases"];
 
-/// The crates that write lines; of these, the file of the functions that its other files alone can call.
+/// The crates that write lines. What they are lent to read are words of the form language, which are constants: they borrow
+/// nothing, and nobody outside can lend them bytes, or reach the functions of the file `PUT`.
 const WRITERS: [&str; 2] = ["answers", "reports"];
-const OWN: &str = "answers/src/put.rt";
+const PUT: &str = "answers/src/put.rt";
+const OPENINGS: [&str; 3] = ["pub use ", "pub mod put;", "pub fn put_byte("];
 
-/// What the arrays hold that fields, parameters and results are.
-const HELD: [&str; 8] = ["bool", "u16", "u64", "Node", "Part", "Row", "Session", "Slot"];
+/// What an array holds, where that shows that it holds no bytes.
+const HELD: [&str; 10] = ["bool", "false", "u16", "u64", "0u64", "Node", "Part", "Row", "Session", "Slot"];
 
-/// What arrays are made of, and in which crate: the numbers and credentials of a form that is read, and tables.
-const MADE: [(&str, &str); 11] = [
-    ("forms", "0u64"),
-    ("forms", "false"),
-    ("lookups", "false"),
-    ("lookups", "slot"),
-    ("lookups", "row"),
-    ("tables", "slot"),
-    ("tables", "row"),
-    ("tables", "node"),
-    ("tables", "session"),
-    ("tables", "blank"),
-    ("tables", "first"),
-];
-
-/// Other arrays, each by its crate.
-const NAMED: [(&str, &str); 6] = [
-    // the next hops: numbers of nodes, whose digits a report writes
-    ("calculus", "routes: [u8; 1056]"),
-    ("reports", "routes: [u8; 1056]"),
-    ("tables", "routes: [0; 1056]"),
-    // the users of the associations, of two bytes each
-    ("tables", "users: [0; 2048]"),
-    // the program's own input and output: it is the caller, and these are the slices that it lends
-    ("simulate", "let mut input = [0u8; 65536]"),
-    ("simulate", "let mut out = [0u8; 131072]"),
-];
-
-/// Every element that a function with bytes to write reads or stores.
-const TOUCHED: [(&str, &str); 9] = [
+/// What there is, by crate.
+const NAMED: &[(&str, &str)] = &[
     // the one place that writes a byte of an answer
-    ("put_byte", "out[at]"),
-    // the words of the form language, which are constants
-    ("put_word", "word[i]"),
+    ("answers", "out[at] ="),
     // the caller's input, of which the rest is moved to the front
-    ("keep", "input[from + i]"),
-    ("keep", "input[i]"),
-    // tables
-    ("calls", "parts[at]"),
-    ("put_credentials", "held[i]"),
-    ("put_nodes", "nodes[i]"),
-    ("put_routes", "routes[i]"),
-    ("put_associations", "users[i]"),
+    ("pieces", "input[i] ="),
+    // the program's own input and output: it is the caller, and these are the slices that it lends
+    ("simulate", "[0u8; 65536]"),
+    ("simulate", "[0u8; 131072]"),
+    ("simulate", "&mut input"),
+    ("simulate", "&mut out"),
+    ("simulate", "&mut input[at..]"),
+    ("simulate", "libc::STDIN_FILENO"),
+    ("simulate", "libc::STDOUT_FILENO"),
+    ("simulate", "libc::read"),
+    ("simulate", "io::count"),
+    ("simulate", "io::write_all"),
+    // the next hops: numbers of nodes, whose digits a report writes
+    ("calculus", "[u8; 1056]"),
+    ("reports", "[u8; 1056]"),
+    ("tables", "[0; 1056]"),
+    // other tables
+    ("tables", "[0; 2048]"),
+    ("tables", "[node; 32]"),
+    ("tables", "[session; 8]"),
+    ("tables", "[slot; 128]"),
+    ("tables", "[row; 256]"),
+    ("tables", "[blank; 16]"),
+    ("tables", "[blank; 32]"),
+    ("tables", "[first; 8]"),
+    ("lookups", "[slot; 16]"),
+    ("lookups", "[row; 32]"),
+    ("simulator", "parts[at] ="),
+    ("simulator", "&mut users"),
+    ("simulator", "&mut users"),
 ];
 
-/// What the search saw of what is named above, and what it found beside.
-#[derive(Default)]
-struct Search {
-    seen: BTreeSet<String>,
-    found: Vec<String>,
-}
+/// A place in the code, and what was found there.
+type Found = (usize, String);
 
-impl Search {
-    fn over(files: &[(String, String)]) -> Self {
-        let sources: Vec<_> = files.iter().map(|(path, text)| Source::new(path, text)).collect();
-        let mut search = Search::default();
-        for source in &sources {
-            search.arrays(source);
-            search.elements(source);
-            search.writable(source);
-        }
-        let writers: Vec<_> = sources.iter().filter(|source| WRITERS.contains(&source.owner())).collect();
-        search.words(&writers);
-        search
-    }
-
-    /// Seen if it is named, else found.
-    fn note(&mut self, name: Option<&str>, source: &Source, what: &str) {
-        match name {
-            Some(name) => drop(self.seen.insert(name.to_string())),
-            None => self.found.push(format!("{}: {what}", source.path)),
-        }
-    }
-
-    /// Local arrays, fields and parameters; also an array that is made of a byte string.
-    fn arrays(&mut self, source: &Source) {
-        let code = &source.code;
+/// The arrays that hold bytes, or do not show what they hold.
+fn arrays(code: &str) -> Vec<Found> {
+    let mut found = Vec::new();
+    for (before, behind) in places(code, "[") {
+        let array = inside(behind);
+        let held = array.split([';', ',']).next().unwrap_or_default();
+        let indexes = before.ends_with(|c| is_named(c) || ")]\"#".contains(c));
         // a slice of bytes is lent
-        for (at, array) in arrays(code).filter(|(_, array)| *array != "u8") {
-            let line = line_at(code, at);
-            let element = array.split(&[';', ','][..]).next().unwrap_or_default().trim();
-            let held = HELD.into_iter().find(|held| *held == element);
-            let made = MADE.into_iter().find(|made| *made == (source.owner(), element));
-            let named = NAMED.into_iter().find(|(owner, named)| *owner == source.owner() && line.contains(named));
-            self.note(held.or(made.or(named).map(|(_, name)| name)), source, line);
-        }
-        for (at, _) in code.match_indices("*b\"") {
-            self.note(None, source, line_at(code, at));
+        if !indexes && array != "u8" && !HELD.contains(&held) {
+            found.push((before.len(), format!("[{array}]")));
         }
     }
-
-    fn elements(&mut self, source: &Source) {
-        for function in functions(&source.code).iter().filter(|function| !function.bytes(true).is_empty()) {
-            for element in elements(function.body) {
-                let known = TOUCHED.contains(&(function.name, element)).then_some(element);
-                self.note(known, source, &format!("{element} in {}", function.name));
-            }
-        }
-    }
-
-    /// Bytes to write are a function's parameter and nowhere else, so that `elements` sees whoever has them.
-    fn writable(&mut self, source: &Source) {
-        let lent = functions(&source.code).iter().map(|function| function.bytes(true).len()).sum();
-        if source.code.matches("mut [u8]").count() != lent {
-            self.note(None, source, "bytes to write that are no parameter");
-        }
-    }
-
-    /// The bytes that a writer is lent to read are constants, or its own caller's constants; nobody outside can lend it any.
-    fn words(&mut self, writers: &[&Source]) {
-        let all: Vec<_> =
-            writers.iter().flat_map(|source| functions(&source.code).into_iter().map(move |f| (*source, f))).collect();
-        for (source, function) in &all {
-            let words = function.bytes(false);
-            if function.public && source.path != OWN && !words.is_empty() {
-                self.note(None, source, &format!("{} is lent bytes to read", function.name));
-            }
-            for (caller_source, caller) in &all {
-                for arguments in calls(caller.body, function.name) {
-                    let known = words.iter().all(|at| is_word(caller, arguments[*at]));
-                    let call = format!("{}({})", function.name, arguments.join(", "));
-                    self.note(known.then_some("a word"), caller_source, &call);
-                }
-            }
-        }
-        for source in writers.iter().filter(|source| source.code.contains("pub mod put;")) {
-            self.note(None, source, "pub mod put;");
-        }
-    }
+    found
 }
 
-/// A constant, or what the function itself was lent as one.
-fn is_word(function: &Function, argument: &str) -> bool {
-    argument == "b\"\"" || function.bytes(false).iter().any(|at| function.parameters[*at].0 == argument)
+/// The elements that are stored.
+fn stores(code: &str) -> Vec<Found> {
+    let mut found = Vec::new();
+    for (before, behind) in places(code, "[") {
+        let name = &before[before.rfind(|c| !is_named(c)).map_or(0, |at| at + 1)..];
+        let index = inside(behind);
+        let rest = behind[index.len()..].trim_start_matches(']').trim_start_matches(is_named);
+        let operator = rest.split_whitespace().next().unwrap_or_default();
+        if !name.is_empty() && operator.ends_with('=') && !["==", "!=", "<=", ">="].contains(&operator) {
+            found.push((before.len(), format!("{name}[{index}] =")));
+        }
+    }
+    found
+}
+
+/// What is lent by a mark: to write by `&mut `, to read by `&`.
+fn lends(code: &str, mark: &str) -> Vec<Found> {
+    let mut found = Vec::new();
+    for (before, behind) in places(code, mark) {
+        let name = name_at(behind);
+        let index = behind[name.len()..].strip_prefix('[').map_or(String::new(), |part| format!("[{}]", inside(part)));
+        if !["", "mut"].contains(&name) {
+            found.push((before.len(), format!("{mark}{name}{index}")));
+        }
+    }
+    found
+}
+
+/// What is used of a library of the toolchain, which may make or fill a buffer.
+fn library(code: &str, library: &str) -> Vec<Found> {
+    let mark = format!("{library}::");
+    let used = places(code, &mark).filter(|(before, _)| !before.ends_with(|c| is_named(c) || c == ':'));
+    used.map(|(before, behind)| (before.len(), format!("{mark}{}", name_at(behind)))).collect()
+}
+
+/// The values behind references, as the array of a byte string.
+fn dereferences(code: &str) -> Vec<Found> {
+    let unary = places(code, "*").filter(|(_, behind)| !behind.starts_with([' ', '=']));
+    unary.map(|(before, behind)| (before.len(), format!("*{}", name_at(behind)))).collect()
+}
+
+/// The functions that others may call and that are lent bytes to read.
+fn lent_to_read(code: &str) -> Vec<Found> {
+    let is_lent = |behind: &str| {
+        let parameters = inside(behind.split_once('(').unwrap_or_default().1);
+        parameters.split(',').any(|parameter| parameter.ends_with("[u8]") && !parameter.contains("mut "))
+    };
+    let functions = places(code, "pub fn ").filter(|(_, behind)| is_lent(behind));
+    functions.map(|(before, behind)| (before.len(), format!("pub fn {}", name_at(behind)))).collect()
+}
+
+fn name_at(text: &str) -> &str {
+    &text[..text.find(|c| !is_named(c)).unwrap_or(text.len())]
+}
+
+/// The libraries that crates.txt names beside the crates here, and `std`, which it does not name.
+fn libraries() -> BTreeSet<String> {
+    let text = fs::read_to_string(here("crates.txt")).expect("crates.txt is read");
+    let lines: Vec<_> = text.lines().filter_map(|line| line.split_once(':')).collect();
+    let used = lines.iter().flat_map(|(_, used)| used.split_whitespace()).chain(["std"]);
+    used.filter(|used| !lines.iter().any(|(name, _)| name == used)).map(str::to_string).collect()
+}
+
+/// What is found in a file; of stores and lends those where its crate has bytes to write.
+fn found_in(source: &Source, code: &str, libraries: &BTreeSet<String>, has_bytes: bool) -> Vec<Found> {
+    let mut found = [arrays(code), dereferences(code)].concat();
+    found.extend(libraries.iter().flat_map(|name| library(code, name)));
+    if has_bytes {
+        found.extend(stores(code));
+        found.extend(lends(code, "&mut "));
+    }
+    if WRITERS.contains(&source.owner()) {
+        found.extend(lends(code, "&"));
+        found.extend(
+            OPENINGS.iter().flat_map(|mark| places(code, mark).map(|(before, _)| (before.len(), mark.to_string()))),
+        );
+        if source.path != PUT {
+            found.extend(lent_to_read(code));
+        }
+    }
+    found
+}
+
+/// What is found and not named, then what is named and not found.
+fn search(sources: &[Source]) -> (Vec<String>, Vec<(&'static str, &'static str)>) {
+    let files: Vec<_> = sources.iter().map(|source| (source, source.code())).collect();
+    let libraries = libraries();
+    let (mut found, mut named) = (Vec::new(), NAMED.to_vec());
+    for (source, code) in &files {
+        let has_bytes = files.iter().any(|(other, code)| other.owner() == source.owner() && code.contains("mut [u8]"));
+        for (at, text) in found_in(source, code, &libraries, has_bytes) {
+            match named.iter().position(|name| *name == (source.owner(), &text[..])) {
+                Some(place) => drop(named.remove(place)),
+                None => found.push(format!("{}:{}: {text}", source.path, code[..at].matches('\n').count() + 1)),
+            }
+        }
+    }
+    (found, named)
 }
 
 /// The files of every crate but the cases.
-fn searched() -> Vec<(String, String)> {
-    let mut files = files();
-    files.retain(|(path, _)| !CASES.iter().any(|cases| path.starts_with(cases)));
-    files
+fn searched() -> Vec<Source> {
+    let mut sources = sources();
+    sources.retain(|source| !CASES.contains(&source.owner()));
+    sources
 }
 
 #[test]
 fn no_buffer_of_bytes_between_an_outcome_and_the_callers_slice() {
-    let search = Search::over(&searched());
-    assert!(search.found.is_empty(), "{:#?}", search.found);
-    // what is named is there, so that no name outlives what it stood for
-    let names = MADE.into_iter().chain(NAMED).chain(TOUCHED).map(|(_, name)| name);
-    for name in names.chain(HELD).chain(["a word"]) {
-        assert!(search.seen.contains(name), "{name} is not there any more");
-    }
+    let (found, gone) = search(&searched());
+    assert!(found.is_empty(), "a buffer or a copy of bytes, or to be named here as what it is: {found:#?}");
+    assert!(gone.is_empty(), "named here, and not in the source: {gone:#?}");
 }
 
 /// A line put into the source before another, and what is then found.
 #[test]
 fn a_buffer_put_in_is_found() {
     let planted = [
+        // a local array, also one that does not show what it holds, and one of a byte string
         ("answers/src/write.rt", "    match answer {", "let mut line = [0u8; 32];", "[0u8; 32]"),
         ("answers/src/put.rt", "    put_byte(out, next, last)", "let line = [last];", "[last]"),
-        ("reports/src/network.rt", "    if node.given {", "let digits = [0u64; 32];", "[0u64; 32]"),
-        ("answers/src/room.rt", "    if size < room", "let mut word = *b\"(made\";", "*b\"\""),
+        ("answers/src/room.rt", "    if size < room", "let mut word = *b\"(made\";", "*b"),
+        ("reports/src/network.rt", "    if 0 < hop {", "let mut routes: [u8; 1056] = [0; 1056];", "[0; 1056]"),
+        ("simulate/src/main.rt", "    run(&mut input", "let mut out = [0u8; 131072];", "[0u8; 131072]"),
+        // an array of a library
+        ("simulator/src/call.rt", "    let reading = read(line);", "let mut line = io::buffer();", "io::buffer"),
+        // a field
         ("calculus/src/answer.rt", "    pub spi: Spi,", "pub line: [u8; 32],", "[u8; 32]"),
         ("simulator/src/calls.rt", "    pub read: usize,", "pub lines: [Line; 4],", "[Line; 4]"),
-        ("simulator/src/call.rt", "    let reading = read(line);", "out[0] = line[0];", "line[0] in call"),
-        ("reports/src/show.rt", "    write_end(out, next)", "out[next] = out[at];", "out[at] in put_shown"),
+        // a copy
+        ("simulator/src/call.rt", "    let reading = read(line);", "out[0] = line[0];", "out[0] ="),
+        ("reports/src/show.rt", "    write_end(out, next)", "out[next] |= out[at];", "out[next] ="),
+        ("pieces/src/lib.rt", "    let kept = keep", "keep(&mut out[from..], 4, to);", "&mut out[from..]"),
         ("answers/src/put.rt", "    put_word(out, q, b\")\\n\")", "put_word(out, q, &out[..at]);", "&out[..at]"),
-        ("answers/src/write.rt", "// Writes", "pub fn copy(out: &mut [u8], s: &[u8]) {}", "copy is lent"),
-        ("answers/src/lib.rt", "mod put;", "pub mod put;", "pub mod put;"),
-        ("lines/src/lib.rt", "    pub at: usize,", "pub line: &'a mut [u8],", "no parameter"),
-        ("simulate/src/main.rt", "    run(&mut input", "let mut lines = [0u8; 4096];", "[0u8; 4096]"),
+        // a way for others to have bytes copied
+        ("answers/src/write.rt", "// Writes", "pub fn copy(out: &mut [u8], s: &[u8]) {}", "pub fn copy"),
+        ("answers/src/put.rt", "// One byte.", "pub fn put_byte(out: &mut [u8], byte: u8) {}", "pub fn put_byte("),
+        ("answers/src/lib.rt", "pub mod write;", "pub use crate::put::put_word;", "pub use "),
+        ("answers/src/lib.rt", "pub mod write;", "pub mod put;", "pub mod put;"),
     ];
     for (path, before, line, expected) in planted {
-        let mut files = searched();
-        let (_, text) = files.iter_mut().find(|(file, _)| file == path).expect("the file is there");
-        assert_eq!(text.matches(before).count(), 1, "{before} in {path}");
-        *text = text.replace(before, &format!("{line}\n{before}"));
-        let found = Search::over(&files).found;
-        let is_expected = |finding: &String| finding.starts_with(path) && finding.contains(expected);
+        let mut sources = searched();
+        let source = sources.iter_mut().find(|source| source.path == path).expect("the file is there");
+        assert_eq!(source.text.matches(before).count(), 1, "{before} in {path}");
+        source.text = source.text.replace(before, &format!("{line}\n{before}"));
+        let (found, _) = search(&sources);
+        let is_expected = |finding: &String| finding.starts_with(path) && finding.ends_with(&format!(": {expected}"));
         assert!(found.iter().any(is_expected), "{line} in {path}: {found:?}");
     }
 }

@@ -26,7 +26,7 @@ use Rattle.forms.proofs.Decimal.{width-most}
 use Rattle.forms.proofs.Lists.{list-end, width-list}
 use Rattle.forms.proofs.LineWidths.{node-width, route-width, association-width}
 
-pub width-line : (ns : List ℕ) → length (lineText [] ns) ≡ length (listText ns) + 1
+width-line : (ns : List ℕ) → length (lineText [] ns) ≡ length (listText ns) + 1
 width-line ns = length-append (listText ns) (bytes "\n")
 
 -- ---- a line's numbers, behind its word
@@ -34,7 +34,7 @@ width-line ns = length-append (listText ns) (bytes "\n")
 pub line-one : (n : ℕ) → n < 2 ^ 32 → length (lineText [] (n ∷ [])) ≤ 13
 line-one n h = omega (arith, width-line (n ∷ []), width-list n [], list-end, width-most 9 n (omega arith))
 
-pub line-two : (n m : ℕ) → n < 2 ^ 32 → m < 2 ^ 32 → length (lineText [] (n ∷ m ∷ [])) ≤ 24
+line-two : (n m : ℕ) → n < 2 ^ 32 → m < 2 ^ 32 → length (lineText [] (n ∷ m ∷ [])) ≤ 24
 line-two n m h g =
     omega (
       arith,

@@ -9,7 +9,7 @@ ghost use Rattle.forms.specs.Answer.{lineText};
 ghost use Rattle.answers.specs.Put.{Put};
 
 // One byte.
-pub fn put_byte(out: &mut [u8], at: usize, byte: u8) -> usize
+fn put_byte(out: &mut [u8], at: usize, byte: u8) -> usize
     requires { ⌜ at < length (now out) ⌝ }
     ensures { λ r. ⌜ Put (now (out .entry)) at (byte ∷ []) (now (out .exit)) r ⌝ }
 {
@@ -42,7 +42,7 @@ fn digit(d: u64) -> u8
 }
 
 // `n` in decimal: what stands before its last digit, then that digit.
-pub fn put_number(out: &mut [u8], at: usize, n: u64) -> usize
+fn put_number(out: &mut [u8], at: usize, n: u64) -> usize
     requires { ⌜ at + length (decimal n) ≤ length (now out) ⌝ }
     ensures { λ r. ⌜ Put (now (out .entry)) at (decimal n) (now (out .exit)) r ⌝ }
 {

@@ -1,6 +1,5 @@
 // The lines of reports, written straight into the caller's slice. Each `write_` answers the place behind its line; where fewer bytes
 // are left than its longest line may have, it writes nothing and answers `at`.
-use crate::put::put_byte;
 use crate::put::put_numbered;
 use crate::put::put_three;
 use crate::put::put_word;
@@ -87,7 +86,7 @@ fn put_credentials(out: &mut [u8], at: usize, word: &[u8], held: [bool; 64]) -> 
         next = put_credential(out, next, i as u64, held[i]);
         i += 1;
     }
-    put_byte(out, next, b')')
+    put_word(out, next, b")")
 }
 
 // A node's kind.

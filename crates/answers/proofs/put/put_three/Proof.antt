@@ -4,9 +4,7 @@ use native.Mathlib.Omega.{arith}
 use borrow.Author.Needs.{needs}
 use lib.ListN.{length-append}
 use Rattle.forms.specs.Text.{listText}
-use Rattle.forms.proofs.Lists.{width-list}
 use Rattle.answers.proofs.Sets.{put-append, put-more}
-use Rattle.answers.proofs.Widths.{width-line}
 use Rattle.answers.proofs.put.put_three.Statement.{statement}
 use Rattle.answers.proofs.put.put_three.Tie as tie
 
@@ -26,11 +24,11 @@ put-numbered-requires-2 c κs =
     omega (arith, simp length-append at (c₁₃ .pre))
 
 put-one-requires : tie.Need-put-one-requires
+unfolding listText
 put-one-requires c κs =
-    let c₁₈ = c .before .before .before .before .before .before .before .before .before .before .before .before .before .before .before .before .before .before in
-    let x = c₁₈ .args in
-    let ns = x .c ∷ [] in
-    omega (arith, width-line ns, width-list (x .a) (x .b ∷ ns), width-list (x .b) ns, simp length-append at (c₁₈ .pre))
+    let c₉ = c .before .before .before .before .before .before .before .before .before in
+    let c₁₈ = c₉ .before .before .before .before .before .before .before .before .before in
+    simp length-append (omega (arith, simp length-append at (c₁₈ .pre)))
 
 returns : tie.Need-returns
 returns c =

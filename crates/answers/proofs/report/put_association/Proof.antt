@@ -22,7 +22,8 @@ put-direction-requires c κs =
 put-three-requires : tie.Need-put-three-requires
 unfolding associationLine
 put-three-requires c κs =
-    let c₁₆ = c .before .before .before .before .before .before .before .before .before .before .before .before .before .before .before .before in
+    let c₈ = c .before .before .before .before .before .before .before .before in
+    let c₁₆ = c₈ .before .before .before .before .before .before .before .before in
     simp length-append (omega (arith, simp length-append at (c₁₆ .pre)))
 
 returns : tie.Need-returns

@@ -53,10 +53,10 @@ module _ {l text m : List ℕ} {at p : ℕ} (s : List Bool) (i : ℕ) where
       omega (arith, x .size, length-append (credentialText i (getD s i false)) (textFrom s (i + 1)))
 
 abbrev Inv-loop : tie.InvT-loop
-Inv-loop out₀ at word held next₀ i₀ out next i = Left out₀ next₀ (textFrom held 0) out next (textFrom held i)
+Inv-loop out₀ at word held next₀ i₀ bracket out next i = Left out₀ next₀ (textFrom held 0) out next (textFrom held i)
 
 abbrev μ-loop : tie.MeasureT-loop
-μ-loop out₀ at word held next₀ i₀ out next i = 64 - i
+μ-loop out₀ at word held next₀ i₀ bracket out next i = 64 - i
 
 put-word-requires : tie.Need-put-word-requires Inv-loop μ-loop
 put-word-requires c κs = omega (arith, simp length-append at (c .before .before .before .pre))
@@ -75,18 +75,18 @@ loop-again c =
     let c₅ = c .before .before .before .before .before in
     left-part _ (c .before .before .put-credential .ensures) (left-next _ _ (search needs) (c₅ .loop .inv))
 
-put-byte-requires : tie.Need-put-byte-requires Inv-loop μ-loop
-put-byte-requires c κs =
-    let c₂ = c .before .before in
-    let c₉ = c₂ .before .before .before .before .before .before .before in
-    let x = left-end _ _ (search needs) (c₂ .loop .inv) in
-    omega (arith, x .place, x .size, simp length-append at (c₉ .pre))
+put-word-requires-2 : tie.Need-put-word-requires-2 Inv-loop μ-loop
+put-word-requires-2 c κs =
+    let c₃ = c .before .before .before in
+    let c₁₀ = c₃ .before .before .before .before .before .before .before in
+    let x = left-end _ _ (search needs) (c₃ .loop .inv) in
+    omega (arith, x .place, x .size, simp length-append at (c₁₀ .pre))
 
 returns : tie.Need-returns Inv-loop μ-loop
 returns c =
-    let c₅ = c .before .before .before .before .before in
-    let c₈ = c₅ .before .before .before in
-    put-append (c₈ .put-word .ensures) (left-last (c .before .before .put-byte .ensures) (left-end _ _ (search needs) (c₅ .loop .inv)))
+    let c₆ = c .before .before .before .before .before .before in
+    let c₉ = c₆ .before .before .before in
+    put-append (c₉ .put-word .ensures) (left-last (c .before .before .put-word2 .ensures) (left-end _ _ (search needs) (c₆ .loop .inv)))
 
 pub put-credentials-spec : {M : Type 1} → statement M
 put-credentials-spec =
@@ -101,6 +101,7 @@ put-credentials-spec =
     (λ c. search needs)
     (λ c. search needs)
     loop-again
-    put-byte-requires
+    (λ c. search needs)
+    put-word-requires-2
     (λ c. search needs)
     returns)
