@@ -118,12 +118,16 @@ fn dereferences(code: &str) -> Vec<Found> {
 
 /// The functions that others may call and that are lent bytes to read.
 fn lent_to_read(code: &str) -> Vec<Found> {
-    let is_lent = |behind: &str| {
+    let mut found = Vec::new();
+    for (before, behind) in places(code, "fn ") {
+        let is_public = before.rsplit('\n').next().is_some_and(|line| line.starts_with("pub "));
         let parameters = inside(behind.split_once('(').unwrap_or_default().1);
-        parameters.split(',').any(|parameter| parameter.ends_with("[u8]") && !parameter.contains("mut "))
-    };
-    let functions = places(code, "pub fn ").filter(|(_, behind)| is_lent(behind));
-    functions.map(|(before, behind)| (before.len(), format!("pub fn {}", name_at(behind)))).collect()
+        let is_lent = |parameter: &str| parameter.ends_with("[u8]") && !parameter.contains("mut ");
+        if is_public && parameters.split(',').any(is_lent) {
+            found.push((before.len(), format!("fn {}", name_at(behind))));
+        }
+    }
+    found
 }
 
 fn name_at(text: &str) -> &str {
@@ -210,7 +214,7 @@ fn a_buffer_put_in_is_found() {
         ("pieces/src/lib.rt", "    let kept = keep", "keep(&mut out[from..], 4, to);", "&mut out[from..]"),
         ("answers/src/put.rt", "    put_word(out, q, b\")\\n\")", "put_word(out, q, &out[..at]);", "&out[..at]"),
         // a way for others to have bytes copied
-        ("answers/src/write.rt", "// Writes", "pub fn copy(out: &mut [u8], s: &[u8]) {}", "pub fn copy"),
+        ("answers/src/write.rt", "// Writes", "pub fn copy(out: &mut [u8], s: &[u8]) {}", "fn copy"),
         ("answers/src/put.rt", "// One byte.", "pub fn put_byte(out: &mut [u8], byte: u8) {}", "pub fn put_byte("),
         ("answers/src/lib.rt", "pub mod write;", "pub use crate::put::put_word;", "pub use "),
         ("answers/src/lib.rt", "pub mod write;", "pub mod put;", "pub mod put;"),
