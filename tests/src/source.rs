@@ -23,8 +23,8 @@ pub fn sources() -> Vec<Source> {
 }
 
 impl Source {
-    /// The name of its crate.
-    pub fn owner(&self) -> &str {
+    /// The crate that it is of.
+    pub fn crate_name(&self) -> &str {
         self.path.split('/').next().unwrap_or_default()
     }
 

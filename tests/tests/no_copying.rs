@@ -12,15 +12,15 @@ use std::fs;
 const CASES: [&str; 2] = ["call_cases", "form_cases"];
 
 /// The crates that write lines. What they are lent to read are words of the form language, which are constants: they borrow
-/// nothing, and nobody outside can lend them bytes, or reach the functions of the file `PUT`.
+/// nothing, and nobody outside can lend them bytes: no public function takes any, and none of the file `PUT` is exported.
 const WRITERS: [&str; 2] = ["answers", "reports"];
 const PUT: &str = "answers/src/put.rt";
-const OPENINGS: [&str; 3] = ["pub use ", "pub mod put;", "pub fn put_byte("];
+const EXPORTS: [&str; 3] = ["pub use ", "pub mod put;", "pub fn put_byte("];
 
 /// What an array holds, where that shows that it holds no bytes.
 const HELD: [&str; 10] = ["bool", "false", "u16", "u64", "0u64", "Node", "Part", "Row", "Session", "Slot"];
 
-/// What there is, by crate.
+/// What the source has of these, by crate.
 const NAMED: &[(&str, &str)] = &[
     // the one place that writes a byte of an answer
     ("answers", "out[at] ="),
@@ -150,10 +150,10 @@ fn found_in(source: &Source, code: &str, libraries: &BTreeSet<String>, has_bytes
         found.extend(stores(code));
         found.extend(lends(code, "&mut "));
     }
-    if WRITERS.contains(&source.owner()) {
+    if WRITERS.contains(&source.crate_name()) {
         found.extend(lends(code, "&"));
         found.extend(
-            OPENINGS.iter().flat_map(|mark| places(code, mark).map(|(before, _)| (before.len(), mark.to_string()))),
+            EXPORTS.iter().flat_map(|mark| places(code, mark).map(|(before, _)| (before.len(), mark.to_string()))),
         );
         if source.path != PUT {
             found.extend(lent_to_read(code));
@@ -168,9 +168,10 @@ fn search(sources: &[Source]) -> (Vec<String>, Vec<(&'static str, &'static str)>
     let libraries = libraries();
     let (mut found, mut named) = (Vec::new(), NAMED.to_vec());
     for (source, code) in &files {
-        let has_bytes = files.iter().any(|(other, code)| other.owner() == source.owner() && code.contains("mut [u8]"));
+        let has_bytes =
+            files.iter().any(|(other, code)| other.crate_name() == source.crate_name() && code.contains("mut [u8]"));
         for (at, text) in found_in(source, code, &libraries, has_bytes) {
-            match named.iter().position(|name| *name == (source.owner(), &text[..])) {
+            match named.iter().position(|name| *name == (source.crate_name(), &text[..])) {
                 Some(place) => drop(named.remove(place)),
                 None => found.push(format!("{}:{}: {text}", source.path, code[..at].matches('\n').count() + 1)),
             }
@@ -182,7 +183,7 @@ fn search(sources: &[Source]) -> (Vec<String>, Vec<(&'static str, &'static str)>
 /// The files of every crate but the cases.
 fn searched() -> Vec<Source> {
     let mut sources = sources();
-    sources.retain(|source| !CASES.contains(&source.owner()));
+    sources.retain(|source| !CASES.contains(&source.crate_name()));
     sources
 }
 
