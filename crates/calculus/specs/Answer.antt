@@ -1,7 +1,7 @@
 -- Document 01's number of each refusal and each loss. Assumes nothing.
 use Prim.Native.Nat.{ℕ}
 use Rattle.calculus.specs.declared.answer.Refusal as refusal
-use Rattle.calculus.specs.declared.answer.Refusal.the-variants.{Short, Unreadable, Range, Double, Unknown, Late, Taken, Idle, Same, Gateway, Spent, NoItem, Waiting, Full}
+use Rattle.calculus.specs.declared.answer.Refusal.the-variants.{Short, Unreadable, Range, Double, Unknown, Late, Taken, Idle, Same, Gateway, Spent, NoItem, Waiting, Full, Clash, Unsorted}
 use Rattle.calculus.specs.declared.answer.Loss as loss
 use Rattle.calculus.specs.declared.answer.Loss.the-variants.{Unprotected, HopLimit, NoRoute, NoTunnel, WrongTunnel, Exhausted}
 
@@ -21,6 +21,9 @@ refusalNumber Spent = 10
 refusalNumber NoItem = 11
 refusalNumber Waiting = 12
 refusalNumber Full = 13
+-- document 02, #106
+refusalNumber Clash = 14
+refusalNumber Unsorted = 15
 
 -- the number after "lost" in the rules of a step
 abbrev pub lossNumber : loss.Loss → ℕ

@@ -4,7 +4,7 @@ use crate::number::Spi;
 ghost use mathlib.Core.Path.{_≡_};
 ghost use Rattle.calculus.specs.Answer.{lossNumber, refusalNumber};
 
-// Why a call is refused, in the order of document 01's table.
+// Why a call or a join is refused, in the order of document 01's table.
 pub enum Refusal {
     Short,
     Unreadable,
@@ -20,6 +20,9 @@ pub enum Refusal {
     NoItem,
     Waiting,
     Full,
+    // of a join (document 02)
+    Clash,
+    Unsorted,
 }
 
 impl Refusal {
@@ -42,6 +45,8 @@ impl Refusal {
             Refusal::NoItem => 11,
             Refusal::Waiting => 12,
             Refusal::Full => 13,
+            Refusal::Clash => 14,
+            Refusal::Unsorted => 15,
         }
     }
 }

@@ -1,17 +1,18 @@
 -- The lines of forms, split again: no form's text has a newline. Assumes nothing.
 use mathlib.Core.Path.{_≡_, refl, ap, _∙_}
 use mathlib.Core.Bool.{Bool, true, not, _&&_}
-use mathlib.Core.List.{List, [], _∷_, _++_, map, append-assoc}
+use mathlib.Core.List.{List, [], _∷_, _++_, map, append-nil, append-assoc}
 use Prim.Native.Nat.{ℕ, zero, suc, _+_, _/_, _%_}
 use native.Mathlib.Omega.{arith}
 use borrow.Author.Tests.{ne-eqb, not-true}
 use lib.Dec.{eqb, ltb}
+use lib.ListN.{length, length-append}
 use Rattle.calculus.proofs.Tests.{both, either}
 use Rattle.calculus.specs.declared.network.Kind.{Kind}
 use Rattle.calculus.specs.declared.network.Kind.the-variants.{Host, Gateway}
 use Rattle.forms.specs.Bytes.{bytes, decimal, digitsOf, joined}
 use Rattle.forms.specs.Text.{Form, node, route, «open», step, send, close, show, net, listText, kindText, text, formLine}
-use Rattle.forms.specs.Line.{lines, withFirst}
+use Rattle.forms.specs.Line.{lineLength, lines, withFirst}
 
 -- no byte of l is a newline
 abbrev oneLine : List ℕ → Bool
@@ -69,9 +70,27 @@ first-line (c ∷ l) r h =
     let k = both (not (eqb c 10)) (oneLine l) h in
     rw (not-true (eqb c 10) (k .0)) (ap (withFirst c) (first-line l r (k .1)))
 
+pub lines-forms-append : (fs : List Form) (more : List ℕ) → lines (joined (map formLine fs) ++ more) ≡ map text fs ++ lines more
+lines-forms-append [] more = refl
+lines-forms-append (f ∷ fs) more =
+    let rest = joined (map formLine fs) in
+    ap lines (append-assoc (formLine f) rest more ∙ append-assoc (text f) (bytes "\n") (rest ++ more)) ∙ first-line (text f) (rest ++ more) (text-line f)
+    ∙ ap (λ (x : List (List ℕ)). text f ∷ x) (lines-forms-append fs more)
+
 pub lines-forms : (fs : List Form) → lines (joined (map formLine fs)) ≡ map text fs
 unfolding lines
-lines-forms [] = refl
-lines-forms (f ∷ fs) =
-    ap lines (append-assoc (text f) (bytes "\n") (joined (map formLine fs))) ∙ first-line (text f) (joined (map formLine fs)) (text-line f)
-    ∙ ap (λ (x : List (List ℕ)). text f ∷ x) (lines-forms fs)
+lines-forms fs = rw (append-nil (joined (map formLine fs)), append-nil (map text fs)) at (lines-forms-append fs [])
+
+-- ---- how long the first line is
+
+line-stops : (l r : List ℕ) → oneLine l ≡ true → lineLength (l ++ 10 ∷ r) ≡ length l
+unfolding lineLength
+line-stops [] r h = refl
+line-stops (c ∷ l) r h =
+    let k = both (not (eqb c 10)) (oneLine l) h in
+    rw (not-true (eqb c 10) (k .0)) (ap suc (line-stops l r (k .1)))
+
+-- whatever follows a form's line, its newline is its last byte
+pub form-line-length : (f : Form) (rest : List ℕ) → lineLength (formLine f ++ rest) + 1 ≡ length (formLine f)
+form-line-length f rest =
+    rw (append-assoc (text f) (bytes "\n") rest, line-stops (text f) rest (text-line f), length-append (text f) (bytes "\n"))

@@ -36,7 +36,21 @@ consistent-fresh =
       routed = λ a b i j e. absurd (omega (arith, route-fresh a b i j, ltb-true 0 (routeTo (fresh .network) a b) e));
     }
 
--- ---- a node more
+-- ---- nodes more
+
+-- m has the nodes of n
+module _ (n m : Network) (keeps : (a : ℕ) → given n a ≡ true → given m a ≡ true) where
+  destination-kept : (b : ℕ) → destinationGiven n b ≡ true → destinationGiven m b ≡ true
+  destination-kept b = go (isDefault b)
+    where
+      go : (t : Bool) → (t || given n b) ≡ true → (t || given m b) ≡ true
+      go true h = refl
+      go false h = keeps b h
+
+  pub nodes-kept : (a b next : ℕ) → nodesGiven n a b next ≡ true → nodesGiven m a b next ≡ true
+  nodes-kept a b next e =
+      let g = nodes-given n a b next e in
+      rw (keeps a (g .at), destination-kept b (g .for), keeps next (g .by))
 
 module _ (n : Network) (a : ℕ) (k : Kind) (has needs : List Bool) where
   given-still : (b : ℕ) → given n b ≡ true → given (withNode n a k has needs) b ≡ true
@@ -48,18 +62,6 @@ module _ (n : Network) (a : ℕ) (k : Kind) (has needs : List Bool) where
       go true h = get-set (λ (x : declared.Node). x .given ≡ true) (n .nodes) (b - 1) (a - 1) _ noNode h refl
       go false h = never h
 
-  for-still : (d : ℕ) → destinationGiven n d ≡ true → destinationGiven (withNode n a k has needs) d ≡ true
-  for-still d = go (isDefault d)
-    where
-      go : (t : Bool) → (t || given n d) ≡ true → (t || given (withNode n a k has needs) d) ≡ true
-      go true h = refl
-      go false h = given-still d h
-
-  nodes-still : (b d next : ℕ) → nodesGiven n b d next ≡ true → nodesGiven (withNode n a k has needs) b d next ≡ true
-  nodes-still b d next e =
-      let g = nodes-given n b d next e in
-      rw (given-still b (g .at), for-still d (g .for), given-still next (g .by))
-
   pub consistent-node : length has ≡ 64 → length needs ≡ 64 → Consistent n → Consistent (withNode n a k has needs)
   consistent-node i j h =
       let x : declared.Node = record { given = true; kind = k; has = has; needs = needs } in
@@ -69,7 +71,7 @@ module _ (n : Network) (a : ℕ) (k : Kind) (has needs : List Bool) where
         places = all-set IsPlace (n .nodes) (a - 1) x (h .places) (record { has = i; needs = j; empty = λ e. never (sym e) });
         routed = λ b d u v e.
             let r = h .routed b d u v e in
-            (nodes-still b d (routeTo n b d) (r .0), r .1);
+            (nodes-kept n (withNode n a k has needs) given-still b d (routeTo n b d) (r .0), r .1);
       }
 
 -- ---- a route more

@@ -26,7 +26,7 @@ use Rattle.model.proofs.Gives.{ok, node-ok, route-ok, Gives, none-left,
 
 -- ---- the nodes
 
-empty-free : (n : Network) (a : ℕ) → getD (n .nodes) (a - 1) noNode ≡ noNode → given n a ≡ false
+pub empty-free : (n : Network) (a : ℕ) → getD (n .nodes) (a - 1) noNode ≡ noNode → given n a ≡ false
 unfolding nodeAt
 empty-free n a e = either (λ (x : declared.Node). x .given ≡ false) (isNode a) (λ i. rw e) (λ i. refl)
 

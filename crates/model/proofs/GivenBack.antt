@@ -26,10 +26,9 @@ use Rattle.model.specs.NetworkText.{nodeForm, routeForm, networkForms, n
 use Rattle.model.specs.State.{fresh}
 use Rattle.model.specs.Calls.{reported, short, answered, requested, replies, roomyCall}
 use Rattle.model.specs.Texts.{afterLines}
-use Rattle.model.specs.GivenBack.{IsPlace, Consistent, freshWith, AnsweredOk, GivenBack}
-use Rattle.model.proofs.Lists.{all-get}
+use Rattle.model.specs.GivenBack.{Consistent, freshWith, AnsweredOk, GivenBack}
 use Rattle.model.proofs.Tables.{total, only-width, entries-width}
-use Rattle.model.proofs.Nodes.{nodes-range, empty-place}
+use Rattle.model.proofs.Nodes.{nodes-range, place-is}
 use Rattle.model.proofs.Reached.{reached}
 use Rattle.model.proofs.Ordered.{text-ordered}
 use Rattle.model.proofs.Gives.{lineOf, gives-after, gives-ok}
@@ -56,7 +55,7 @@ routes-most = refl
 -- ---- the text of a consistent network
 
 module _ (n : Network) (h : Consistent n) where
-  text-calls : map roomyCall (lines (networkText n)) ≡ map lineOf (networkForms n)
+  pub text-calls : map roomyCall (lines (networkText n)) ≡ map lineOf (networkForms n)
   text-calls = ap (map roomyCall) (lines-forms (networkForms n)) ∙ map-map roomyCall text (networkForms n)
 
   text-again : afterLines fresh (lines (networkText n)) ≡ freshWith n
@@ -70,7 +69,7 @@ module _ (n : Network) (h : Consistent n) where
   node-most : (j : ℕ) → length (joined (map formLine (nodeForm (1 + j) (getD (n .nodes) j noNode)))) ≤ nodeMost (1 + j)
   node-most j =
       let x = getD (n .nodes) j noNode in
-      let g = all-get IsPlace (n .nodes) j noNode (h .places) empty-place in
+      let g = place-is n h j in
       only-width formLine (nodeMost (1 + j)) (x .given) (nodeOf (1 + j) (x .kind) (x .has) (x .needs))
       (λ e. simp length-append (omega (arith, node-width (1 + j) (x .kind) (x .has) (x .needs) (g .has) (g .needs))))
 

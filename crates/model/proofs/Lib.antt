@@ -53,3 +53,9 @@ pub mod Newlines
 pub mod Texts
 pub mod Unfinished
 pub mod Stream
+pub mod Pairs
+pub mod PlaceLines
+pub mod Clash
+pub mod Both
+pub mod FileRead
+pub mod Union

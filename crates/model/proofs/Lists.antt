@@ -50,6 +50,9 @@ module _ {A : Type 0} (P : A → Type 0) where
   all-replicate zero x k = tt
   all-replicate (suc n) x k = (k, all-replicate n x k)
 
+pub replicate-at : {A : Type 0} (n : ℕ) (x : A) (i : ℕ) → getD (replicate n x) i x ≡ x
+replicate-at {A} n x i = all-get (λ (y : A). y ≡ x) (replicate n x) i x (all-replicate (λ (y : A). y ≡ x) n x refl) refl
+
 pub all-map : {A : Type 0} (P Q : A → Type 0) → ((x : A) → P x → Q x) → (l : List A) → All P l → All Q l
 all-map P Q f [] h = tt
 all-map P Q f (x ∷ l) h = (f x (h .0), all-map P Q f l (h .1))

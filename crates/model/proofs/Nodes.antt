@@ -90,6 +90,9 @@ either-given n exact default i j = go (way (ltb 0 exact)) (way (ltb 0 default))
     go (isnt e) (isnt f) = simp (e, f) tt
 
 module _ (n : Network) (h : Consistent n) where
+  pub place-is : (j : ℕ) → IsPlace (getD (n .nodes) j noNode)
+  place-is j = all-get IsPlace (n .nodes) j noNode (h .places) empty-place
+
   leads : (a b : ℕ) → Node a → Destination b → isRouted n a b ≡ true → given n (routeTo n a b) ≡ true
   leads a b i j e = nodes-given n a b (routeTo n a b) (h .routed a b i j e .0) .by
 
@@ -109,5 +112,5 @@ module _ (n : Network) (h : Consistent n) where
         routes = hop-given;
         gateways = λ a.
             either GivenGateway (isNode a)
-            (λ e. place-gateway _ (all-get IsPlace (n .nodes) (a - 1) noNode (h .places) empty-place)) (λ e k. never k);
+            (λ e. place-gateway _ (place-is (a - 1))) (λ e k. never k);
       }

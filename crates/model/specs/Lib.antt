@@ -20,5 +20,7 @@ pub mod Refusals
 pub mod Show
 pub mod GivenBack
 pub mod LookUp
+pub mod Join
+pub mod Union
 pub mod Listings
 pub mod ListingsHold
