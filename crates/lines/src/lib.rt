@@ -27,7 +27,7 @@ pub fn line<'a>(r: Reader<'a>) -> Line
 }
 
 // Where a reader at `at` stands once its line is read.
-pub fn behind_line(input: &[u8], at: usize) -> usize
+fn behind_line(input: &[u8], at: usize) -> usize
     ensures { λ n. ⌜ n ≡ behind (now (input .entry)) at ⌝ }
 {
     match next_line(input, at) {

@@ -58,20 +58,17 @@ file-consistent : (f : File) → Consistent (networkOf f)
 file-consistent none = consistent-fresh
 file-consistent (some t) = in-consistent t
 
-sorted-text : (f : File) → isSorted f ≡ true → (n : Network) × IsTextOf f n
+pub sorted-text : (t : List ℕ) → isNetworkText t ≡ true → IsTextOf t (networkIn t)
 unfolding isNetworkText
-sorted-text none e = never e
-sorted-text (some t) e = (networkIn t, record { consistent = file-consistent (some t); same = ap some (text-equal t (networkText (networkIn t)) e) })
+sorted-text t e = record { consistent = in-consistent t; same = text-equal t (networkText (networkIn t)) e }
 
-sorted-exactly : (f : File) → (isSorted f ≡ true) ↔ ((n : Network) × IsTextOf f n)
-sorted-exactly f = (sorted-text f, λ w. rw (w .1 .same) (text-sorted (w .0) (w .1 .consistent)))
+sorted-exactly : (t : List ℕ) → (isNetworkText t ≡ true) ↔ ((n : Network) × IsTextOf t n)
+sorted-exactly t = (λ e. (networkIn t, sorted-text t e), λ w. rw (w .1 .same) (text-sorted (w .0) (w .1 .consistent)))
 
 -- no network's text is so long
 long-unsorted : (t : List ℕ) → 29376 < length t → isNetworkText t ≡ false
-long-unsorted t h = not-so (isNetworkText t) (λ e.
-    let w = sorted-text (some t) e in
-    let s : t ≡ networkText (w .0) = cc (w .1 .same) in
-    omega (arith, ap length s, given-back .fits (w .0) (w .1 .consistent)))
+long-unsorted t h =
+    not-so (isNetworkText t) (λ e. let w = sorted-text t e in omega (arith, ap length (w .same), given-back .fits (networkIn t) (w .consistent)))
 
 -- ---- the join
 

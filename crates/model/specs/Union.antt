@@ -12,10 +12,10 @@ use Rattle.model.specs.NetworkText.{networkText}
 use Rattle.model.specs.GivenBack.{Consistent}
 use Rattle.model.specs.Join.{File, isSorted, clash, union, networkReply, joinNetworks, join}
 
--- a file that is the text of the network n
-pub record IsTextOf (f : File) (n : Network) : Type 0 where
+-- t is the text of n, a network as calls leave it
+pub record IsTextOf (t : List ℕ) (n : Network) : Type 0 where
   pub consistent : Consistent n
-  pub same : f ≡ some (networkText n)
+  pub same : t ≡ networkText n
 
 -- what the networks share is the same in both: each node, and the next hop of each at and destination
 pub record Agree (n m : Network) : Type 0 where
@@ -28,8 +28,8 @@ cutTo k none = none
 cutTo k (some t) = some (take k t)
 
 pub record Union : Type 0 where
-  -- "15 unsorted, exactly if a file can't be read or isn't as #101 writes it": a file is sorted exactly if it is the text of a network
-  pub sorted : (f : File) → (isSorted f ≡ true) ↔ ((n : Network) × IsTextOf f n)
+  -- "15 unsorted, exactly if a file can't be read or isn't as #101 writes it": one that is read is sorted exactly if it is a network's text
+  pub sorted : (t : List ℕ) → (isSorted (some t) ≡ true) ↔ ((n : Network) × IsTextOf t n)
   -- the join of two networks' texts: refused 14, or the text of the network of both
   pub joins : (n m : Network) (size : ℕ) → Consistent n → Consistent m → 65536 ≤ size
       → join (some (networkText n)) (some (networkText m)) size ≡ joinNetworks n m

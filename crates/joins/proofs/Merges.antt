@@ -1,0 +1,108 @@
+-- The lines of two networks' texts, put one after the other: the text of the union. Assumes nothing.
+use mathlib.Core.Path.{_≡_, ap, _∙_}
+use mathlib.Core.List.{List, [], _∷_, _++_, append-assoc, append-nil}
+use Prim.Native.Nat.{ℕ, _+_, _-_, _≤_}
+use native.Mathlib.Omega.{arith}
+use lib.ListN.{length, take, drop, length-append, length-drop, drop-of-length-le}
+use lib.Seq.{length-take-le, take-add, take-length, drop-drop, take-at, drop-at, take-append-seam}
+use Rattle.calculus.proofs.Tests.{either}
+use Rattle.calculus.specs.declared.network.Network.{Network}
+use Rattle.forms.specs.Bytes.{joined}
+use Rattle.forms.proofs.Parts as parts
+use Rattle.model.specs.Join.{placeLines, isThere, together, union}
+use Rattle.model.specs.NetworkText.{networkText}
+use Rattle.model.specs.Union.{IsTextOf}
+use Rattle.model.proofs.GivenBack.{given-back}
+use Rattle.model.proofs.PlaceLines.{firstOf, union-places, text-places}
+use Rattle.joins.specs.Front.{Front}
+use Rattle.joins.proofs.Readings.{Reading, reading-more, linesLeft, Read}
+
+-- ---- the width: each line is one of either text
+
+width-first : (x y : List ℕ) → length (firstOf x y) ≤ length x + length y
+width-first x y = either (λ z. length z ≤ length x + length y) (isThere x) (λ e. omega arith) (λ e. omega arith)
+
+width-together : (l m : List (List ℕ)) → length (joined (together firstOf l m)) ≤ length (joined l) + length (joined m)
+unfolding together
+width-together [] m = omega arith
+width-together (x ∷ l) [] = omega arith
+width-together (x ∷ l) (y ∷ m) =
+    omega (
+      arith,
+      width-first x y,
+      width-together l m,
+      length-append (firstOf x y) (joined (together firstOf l m)),
+      length-append x (joined l),
+      length-append y (joined m),
+    )
+
+module _ {n m : Network} {a b : List ℕ} (g : IsTextOf a n × IsTextOf b m) where
+  pub whole-lines : networkText (union n m) ≡ joined (together firstOf (placeLines n) (placeLines m))
+  whole-lines = text-places (union n m) ∙ ap joined (union-places n m (g .0 .consistent) (g .1 .consistent))
+
+  pub whole-width : length (networkText (union n m)) ≤ 65536
+  whole-width =
+      omega (
+        arith,
+        ap length whole-lines,
+        width-together (placeLines n) (placeLines m),
+        ap length (text-places n),
+        ap length (text-places m),
+        given-back .fits n (g .0 .consistent),
+        given-back .fits m (g .1 .consistent),
+      )
+
+-- ---- the lines put
+
+-- the lines of the first k places are read, and the first of each two is put
+pub record Merging (n m : Network) (a b out₀ out : List ℕ) (i j end k : ℕ) : Type 0 where
+  pub first : Reading a i (linesLeft n k)
+  pub second : Reading b j (linesLeft m k)
+  pub whole : Reading (networkText (union n m)) end (together firstOf (linesLeft n k) (linesLeft m k))
+  pub width : length (networkText (union n m)) ≤ length out₀
+  pub bytes : out ≡ take end (networkText (union n m)) ++ drop end out₀
+
+module _ {n m : Network} {a b out₀ out : List ℕ} {i j end k : ℕ} (s : Merging n m a b out₀ out i j end k) where
+  abbrev text : List ℕ
+  text = networkText (union n m)
+
+  front : length (take end text) ≡ end
+  front = length-take-le end text (s .whole .inside)
+
+  pub merging-size : length out ≡ length out₀
+  merging-size =
+      let w = s .whole .inside in
+      omega (arith, ap length (s .bytes), length-append (take end text) (drop end out₀), front, length-drop end out₀, s .width)
+
+  pub merging-all : linesLeft n k ≡ [] → Front out₀ text out end
+  unfolding together
+  merging-all e =
+      let left : drop end text ≡ [] = s .whole .rest ∙ rw e in
+      let all : end ≡ length text = omega (arith, s .whole .inside, length-drop end text, ap length left) in
+      record { place = all; bytes = s .bytes ∙ rw (all, take-length) }
+
+  module _ {x y line : List ℕ} (p : Read n a k i x) (q : Read m b k j y) (e : line ≡ firstOf x y) where
+    next-line : Reading text end (line ∷ together firstOf (linesLeft n (k + 1)) (linesLeft m (k + 1)))
+    unfolding together
+    next-line = rw e (rw (p .line, q .line) at (s .whole))
+
+    pub merging-end : end + length line ≤ length text
+    merging-end = reading-more next-line .inside
+
+    -- the part of the output behind `end` is lent, and comes back with the line at its front
+    pub merging-more : {size : ℕ} {part : List ℕ} → size ≡ length line
+        → part ≡ take (length line) line ++ drop (length line) (take (length out - end) (drop end out))
+        → Merging n m a b out₀ (take end out ++ (part ++ drop (length out - end) (drop end out))) (i + length x) (j + length y) (end + size) (k + 1)
+    merging-more {size} {part} z w =
+        let put : take end out ≡ take end text = ap (take end) (s .bytes) ∙ take-at (take end text) (drop end out₀) end front in
+        let old : drop end out ≡ drop end out₀ = ap (drop end) (s .bytes) ∙ drop-at (take end text) (drop end out₀) end front in
+        let lent : take (length out - end) (drop end out) ≡ drop end out = parts.rest (λ (l : List ℕ). l) end out in
+        let rest : drop (length out - end) (drop end out) ≡ [] = drop-of-length-le (drop end out) {i = length out - end} (omega (arith, length-drop end out)) in
+        let more : take (end + length line) text ≡ take end text ++ line = take-add end (length line) text ∙ rw (next-line .rest, take-append-seam) in
+        rw z record {
+          first = p .more;
+          second = q .more;
+          whole = reading-more next-line;
+          width = s .width;
+          bytes = rw (w, rest, lent, put, old, more, take-length, drop-drop, append-nil, append-assoc);
+        }
