@@ -6,6 +6,7 @@ pub mod compare;
 pub mod damage;
 pub mod defaults;
 pub mod form;
+pub mod join;
 pub mod lines;
 pub mod listing;
 pub mod lists;

@@ -2,7 +2,7 @@
 
 use std::collections::{BTreeMap, BTreeSet};
 
-#[derive(Clone)]
+#[derive(Clone, PartialEq)]
 pub struct Node {
     pub gateway: bool,
     pub has: BTreeSet<u64>,

@@ -27,13 +27,14 @@ use Rattle.model.specs.GivenBack.{Consistent}
 use Rattle.model.specs.Join.{File, sameText, isNetworkText, networkIn, isSorted, networkOf, clash, union, refusedJoin, shortJoin, networkReply, joinNetworks, join}
 use Rattle.model.proofs.GivenBack.{given-back}
 use Rattle.model.proofs.FileRead.{Reads, file-read}
-use Rattle.model.proofs.Union.{sorted-text}
+use Rattle.model.proofs.Union.{sorted-text, unions}
 use Rattle.simulator.specs.Batch.{Answers}
 use Rattle.simulator.specs.declared.calls.Answered.{Answered}
 use Rattle.simulator.specs.Reply.{Replies}
 use Rattle.simulator.specs.declared.call.Reply.{Reply}
 use Rattle.joins.specs.Front.{Front}
-use Rattle.joins.specs.Join.{fileOf, Finds}
+use Rattle.joins.specs.Join.{fileOf, Finds, JoinReplies}
+use Rattle.joins.specs.declared.JoinReply.{JoinReply}
 use Rattle.model.specs.Union.{IsTextOf}
 use Rattle.joins.specs.declared.Contents.{Contents}
 
@@ -95,6 +96,10 @@ file-text false t w e = never (sym (w .sorted) ∙ e)
 -- ---- the join, by its cases
 
 module _ (f g : File) (size : ℕ) where
+  -- what is written fits
+  pub join-few : {out left : List ℕ} {r : JoinReply} → JoinReplies out (join f g size) left r → r .written ≤ 29376
+  join-few w = omega (arith, w .output .place, unions .fits f g size)
+
   pub join-short : size < 65536 → join f g size ≡ shortJoin
   unfolding join
   join-short h = rw (lt-ltb size 65536 h)

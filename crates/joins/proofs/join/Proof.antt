@@ -30,9 +30,13 @@ join-networks-requires c κs =
     let c₁ = c .before in
     let c₃ = c₁ .before .before in
     let c₅ = c₃ .before .before in
-    let x = c₅ .before .before .before .before .args in
-    ((file-text (x .is-a-read) (x .a .now) (c₃ .before .read-file .ensures) (c₃ .if2 .taken),
-    file-text (x .is-b-read) (x .b .now) (c₁ .before .read-file2 .ensures) (c₁ .if3 .taken)), c₅ .if1 .left)
+    let x = c₅ .before .before .before .before .args in (
+      (
+        file-text (x .is-a-read) (x .a .now) (c₃ .before .read-file .ensures) (c₃ .if2 .taken),
+        file-text (x .is-b-read) (x .b .now) (c₁ .before .read-file2 .ensures) (c₁ .if3 .taken),
+      ),
+      c₅ .if1 .left,
+    )
 
 returns-2 : tie.Need-returns-2
 returns-2 c =
