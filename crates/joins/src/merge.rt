@@ -91,10 +91,10 @@ pub fn merge<'a>(a: &'a [u8], b: &'a [u8], n: Network, m: Network, out: &mut [u8
         let line = next(a, b, i, j, in_a, in_b);
         let size = bytes::copy(line, &mut out[end..]);
         end += size;
-        let x = line_at(a, i, in_a);
-        let y = line_at(b, j, in_b);
-        i += x.len();
-        j += y.len();
+        let of_a = line_at(a, i, in_a);
+        let of_b = line_at(b, j, in_b);
+        i += of_a.len();
+        j += of_b.len();
         k += 1;
     }
     end

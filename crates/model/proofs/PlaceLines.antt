@@ -117,7 +117,7 @@ lines-together f isGiven there k (x ∷ l) [] = refl
 lines-together {A} f isGiven there k (x ∷ l) (y ∷ m) =
     rw (either-first (λ (z : A). joined (map formLine (f k z))) (isGiven x) x y (there k x), lines-together f isGiven there (k + 1) l m)
 
-together-append : {A B : Type 0} (f : A → A → B) (l m l′ m′ : List A) → length l ≡ length l′
+together-append : {A : Type 0} (f : A → A → A) (l m l′ m′ : List A) → length l ≡ length l′
     → together f (l ++ m) (l′ ++ m′) ≡ together f l l′ ++ together f m m′
 unfolding together
 together-append f [] m [] m′ e = refl

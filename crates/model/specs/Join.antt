@@ -50,7 +50,7 @@ networkOf (some t) = networkIn t
 -- ---- the two networks, place by place
 
 -- f of the two elements at each place
-unfoldable pub together : {A B : Type 0} → (A → A → B) → List A → List A → List B
+unfoldable pub together : {A : Type 0} → (A → A → A) → List A → List A → List A
 together f [] m = []
 together f (x ∷ l) [] = []
 together f (x ∷ l) (y ∷ m) = f x y ∷ together f l m

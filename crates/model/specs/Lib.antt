@@ -23,4 +23,5 @@ pub mod LookUp
 pub mod Join
 pub mod Union
 pub mod Listings
+pub mod JoinListings
 pub mod ListingsHold

@@ -29,6 +29,7 @@ use Rattle.model.specs.State.{fresh, load}
 use Rattle.model.specs.Calls.{Call, call, linesOf, after, replies, roomyCall}
 use Rattle.model.specs.Noninterference.{View, view}
 use Rattle.model.specs.Termination.{setUpSteps, afterRounds}
+use Rattle.model.specs.JoinListings.{JoinListings}
 use Rattle.model.specs.Listings.{Exchange, Listing, listings, listingA, listingB, listingC, listingF, dataInFirstOfThree, threeTunnels, waitsLeft, furtherExamples}
 
 -- ---- what is written
@@ -244,3 +245,5 @@ pub record Listings : Type 0 where
   pub furtherSteps : map stepsBehind (take 10 listingA ∷ threeTunnels ∷ waitsLeft ∷ []) ≡ 2 ∷ 69 ∷ 5 ∷ []
   -- #103's rounds: in 23 of them, with nothing called between, B's set-up comes from its open to its end
   pub rounds : view (afterRounds 1 (after fresh (map callOf (take 5 listingB))) (replicate 23 [])) 1 ≡ endOfB .sees
+  -- #106's joins of small files
+  pub joins : JoinListings
