@@ -1,8 +1,9 @@
 -- The lines of two networks' texts, put one after the other: the text of the union. Assumes nothing.
 use mathlib.Core.Path.{_≡_, ap, _∙_}
 use mathlib.Core.List.{List, [], _∷_, _++_, append-assoc, append-nil}
-use Prim.Native.Nat.{ℕ, _+_, _-_, _≤_}
+use Prim.Native.Nat.{ℕ, _+_, _-_, _≤_, _<_}
 use native.Mathlib.Omega.{arith}
+use borrow.Author.Tests.{lt-ltb, le-ltb}
 use lib.ListN.{length, take, drop, length-append, length-drop, drop-of-length-le}
 use lib.Seq.{length-take-le, take-add, take-length, drop-drop, take-at, drop-at, take-append-seam}
 use Rattle.calculus.proofs.Tests.{either}
@@ -52,6 +53,15 @@ module _ {n m : Network} {a b : List ℕ} (g : IsTextOf a n × IsTextOf b m) whe
         given-back .fits m (g .1 .consistent),
       )
 
+-- ---- the first of two lines
+
+module _ {x first : List ℕ} (e : first ≡ x) (y : List ℕ) where
+  pub next-first : 0 < length first → first ≡ firstOf x y
+  next-first h = rw (← e, lt-ltb 0 (length first) h)
+
+  pub next-second : {line : List ℕ} → length first ≤ 0 → line ≡ y → line ≡ firstOf x y
+  next-second h w = rw (← e, le-ltb 0 (length first) h) w
+
 -- ---- the lines put
 
 -- the lines of the first k places are read, and the first of each two is put
@@ -90,16 +100,16 @@ module _ {n m : Network} {a b out₀ out : List ℕ} {i j end k : ℕ} (s : Merg
     merging-end = reading-more next-line .inside
 
     -- the part of the output behind `end` is lent, and comes back with the line at its front
-    pub merging-more : {size : ℕ} {part : List ℕ} → size ≡ length line
-        → part ≡ take (length line) line ++ drop (length line) (take (length out - end) (drop end out))
-        → Merging n m a b out₀ (take end out ++ (part ++ drop (length out - end) (drop end out))) (i + length x) (j + length y) (end + size) (k + 1)
-    merging-more {size} {part} z w =
+    pub merging-more : {size : ℕ} {part ofA ofB : List ℕ} → size ≡ length line
+        → part ≡ take (length line) line ++ drop (length line) (take (length out - end) (drop end out)) → ofA ≡ x → ofB ≡ y
+        → Merging n m a b out₀ (take end out ++ (part ++ drop (length out - end) (drop end out))) (i + length ofA) (j + length ofB) (end + size) (k + 1)
+    merging-more {size} {part} z w u v =
         let put : take end out ≡ take end text = ap (take end) (s .bytes) ∙ take-at (take end text) (drop end out₀) end front in
         let old : drop end out ≡ drop end out₀ = ap (drop end) (s .bytes) ∙ drop-at (take end text) (drop end out₀) end front in
         let lent : take (length out - end) (drop end out) ≡ drop end out = parts.rest (λ (l : List ℕ). l) end out in
         let rest : drop (length out - end) (drop end out) ≡ [] = drop-of-length-le (drop end out) {i = length out - end} (omega (arith, length-drop end out)) in
         let more : take (end + length line) text ≡ take end text ++ line = take-add end (length line) text ∙ rw (next-line .rest, take-append-seam) in
-        rw z record {
+        rw (z, u, v) record {
           first = p .more;
           second = q .more;
           whole = reading-more next-line;

@@ -63,8 +63,8 @@ loop-again : tie.Need-loop-again Inv-loop μ-loop
 loop-again c =
     let c₄ = c .before .before .before .before in
     let c₆ = c₄ .before .before in
-    rw (c .before .line-at .ensures, c .line-at2 .ensures)
-    (merging-more (at c₆ .loop .inv) (first c₆) (second c₆) (c₆ .next .ensures) (c₄ .copy .ensures .0) (c₄ .copy .ensures .1))
+    merging-more (at c₆ .loop .inv) (first c₆) (second c₆) (c₆ .next .ensures) (c₄ .copy .ensures .0) (c₄ .copy .ensures .1)
+    (c .before .line-at .ensures) (c .line-at2 .ensures)
 
 same-length : tie.Need-same-length Inv-loop μ-loop
 same-length c = merging-size (c .before .loop .inv)
