@@ -1,7 +1,12 @@
 //! Compares outputs, byte by byte.
 
 use crate::lists::{input, List};
-use crate::{lines, program};
+use crate::{join, lines, program};
+use std::fs;
+use std::path::Path;
+
+/// The bytes of output that the program lends a join.
+const LENT: usize = 65_536;
 
 /// The output's lines, each with its newline: no byte is left out.
 fn lines_of(output: &[u8]) -> Vec<&[u8]> {
@@ -52,6 +57,21 @@ pub fn check_output(input: &[u8], expected: &[u8]) {
 pub fn check_output_of(name: &str, input: &[u8], expected: &[u8]) {
     assert_eq!(difference(expected, &lines::run(input)), None, "{name}: second implementation");
     assert_eq!(difference(expected, &program::run(input)), None, "{name}: program");
+}
+
+/// What the second implementation writes for a join of these files, none where one can't be read.
+pub fn joined(first: Option<&[u8]>, second: Option<&[u8]>) -> Vec<u8> {
+    join::join(first, second, LENT).written
+}
+
+/// Asserts that both implementations write this for a join of these files, whichever comes first.
+pub fn check_join(name: &str, [one, other]: [&Path; 2], expected: &[u8]) {
+    for paths in [[one, other], [other, one]] {
+        let [first, second] = paths.map(|path| fs::read(path).ok());
+        let written = joined(first.as_deref(), second.as_deref());
+        assert_eq!(difference(expected, &written), None, "{name}, {paths:?}: second implementation");
+        assert_eq!(difference(expected, &program::join(&paths)), None, "{name}, {paths:?}: program");
+    }
 }
 
 /// Asserts that both implementations answer each call as written beside it, several lines with newlines between.

@@ -1,5 +1,7 @@
-//! Runs the built program. Nothing here waits for ever: past the limit the test fails and the program is killed.
+//! Runs the built programs. Nothing here waits for ever: past the limit the test fails and the program is killed.
 
+use crate::random::Random;
+use std::ffi::OsStr;
 use std::io::{BufRead, BufReader, Read, Write};
 use std::path::PathBuf;
 use std::process::{Child, ChildStderr, ChildStdin, ChildStdout, Command, ExitStatus, Stdio};
@@ -10,11 +12,17 @@ use std::time::{Duration, Instant};
 /// The longest that a run, or the wait for one answer, may take.
 pub const LIMIT: Duration = Duration::from_secs(120);
 
-/// The program under test: the built one, or the one that SIMULATE names.
+/// The simulator under test: the built one, or the one that SIMULATE names.
 pub fn command() -> Command {
-    let built = PathBuf::from(env!("CARGO_MANIFEST_DIR")).join("../target/bin/simulate");
-    let path = std::env::var_os("SIMULATE").map_or(built, PathBuf::from);
-    assert!(path.is_file(), "no program at {}: build it first, or name another by SIMULATE", path.display());
+    command_of("simulate")
+}
+
+/// The program under test by this name: the built one, or the one that the variable of its name, in capitals, names.
+pub fn command_of(program: &str) -> Command {
+    let variable = program.to_uppercase();
+    let built = PathBuf::from(env!("CARGO_MANIFEST_DIR")).join("../target/bin").join(program);
+    let path = std::env::var_os(&variable).map_or(built, PathBuf::from);
+    assert!(path.is_file(), "no program at {}: build it first, or name another by {variable}", path.display());
     Command::new(path)
 }
 
@@ -26,6 +34,24 @@ pub fn run(input: &[u8]) -> Vec<u8> {
     // A program that ends before its input does is noticed by its output.
     thread::spawn(move || drop(stdin.write_all(&input)));
     program.finish()
+}
+
+/// What `join` writes for the files of these names; it must end with status 0.
+pub fn join<Name: AsRef<OsStr>>(names: &[Name]) -> Vec<u8> {
+    let mut command = command_of("join");
+    command.args(names);
+    Running::start(command).finish()
+}
+
+/// Writes the whole in pieces of any size up to 60 bytes, each long enough after the one before for that to be read alone.
+pub fn write_in_pieces(mut input: impl Write, whole: &[u8], random: &mut Random) {
+    let mut rest = whole;
+    while !rest.is_empty() {
+        let (piece, after) = rest.split_at(rest.len().min(1 + random.index(60)));
+        input.write_all(piece).expect("the piece is written");
+        thread::sleep(Duration::from_millis(1));
+        rest = after;
+    }
 }
 
 /// A process that is killed when it is dropped.

@@ -1,4 +1,4 @@
-//! Runs the script `./simulate`, also on a terminal.
+//! Runs the scripts `./simulate` and `./join`, also on a terminal.
 
 use crate::program::{Running, Whole, LIMIT};
 use std::io::{Read, Write};

@@ -2,6 +2,7 @@
 
 use crate::script::here;
 use std::fs;
+use std::os::unix::fs::{MetadataExt, PermissionsExt};
 use std::path::{Path, PathBuf};
 use std::process::Command;
 use std::sync::atomic::{AtomicUsize, Ordering};
@@ -23,10 +24,32 @@ impl Folder {
     }
 
     /// Writes a file, and the folders that it stands in.
-    pub fn write(&self, name: &str, text: &str) {
+    pub fn write(&self, name: &str, text: impl AsRef<[u8]>) {
         let path = self.path(name);
         fs::create_dir_all(path.parent().expect("a file stands in a folder")).expect("its folder is made");
         fs::write(path, text).expect("the file is written");
+    }
+
+    /// Closes a file to everyone, and gives the command that runs a program of this folder where that counts: every file is
+    /// open to root, so root runs it as nobody.
+    pub fn close(&self, name: &str, program: &str) -> Command {
+        let mut command = Command::new(program);
+        if fs::metadata(self.path(name)).expect("the file is there").uid() == 0 {
+            let open = Command::new("chmod").args(["-R", "go+rX"]).arg(self.path("")).status();
+            assert!(open.is_ok_and(|status| status.success()));
+            command = Command::new("setpriv");
+            command.args(["--reuid=65534", "--regid=65534", "--clear-groups", program]);
+        }
+        fs::set_permissions(self.path(name), fs::Permissions::from_mode(0o000)).expect("the file is closed");
+        command.current_dir(self.path(""));
+        command
+    }
+
+    /// Copies files, or folders with all that is in them, into this one.
+    pub fn copy(&self, paths: &[impl AsRef<Path>]) {
+        // A file that this process wrote itself may be busy for a moment, and could not be run.
+        let copied = Command::new("cp").arg("-R").args(paths.iter().map(AsRef::as_ref)).arg(self.path("")).status();
+        assert!(copied.is_ok_and(|status| status.success()), "the files are not copied");
     }
 }
 
@@ -45,20 +68,21 @@ const PROGRAM: &str = "fn main() {
 }
 ";
 
-/// The program `simulate`, which copies its input, rests on `one`, and on `two` and `three`, which rest on `one`. Nothing is built.
+/// The programs `simulate` and `join` copy their input. `simulate` rests on `one`, and on `two` and `three`, which rest on `one`;
+/// `join` rests on `one`. Nothing is built.
 pub fn repository() -> Folder {
     let folder = Folder::temporary();
-    // A file that this process wrote itself may be busy for a moment, and could not be run.
-    let copied = Command::new("cp").arg("-R").args([here("simulate"), here("tools")]).arg(folder.path("")).status();
-    assert!(copied.is_ok_and(|status| status.success()), "the scripts are not copied");
+    folder.copy(&["simulate", "join", "tools"].map(here));
     folder.write(
         "crates.txt",
-        "# NAME: rests on\none:\ntwo: one\nthree: one\nother: one\nsimulate: two three one io libc\n",
+        "# NAME: rests on\none:\ntwo: one\nthree: one\nother: one\njoin: one io libc\nsimulate: two three one io libc\n",
     );
     for name in ["one", "two", "three", "other"] {
-        folder.write(&format!("crates/{name}/src/lib.rt"), &format!("pub fn {name}() -> usize {{\n    7\n}}\n"));
+        folder.write(&format!("crates/{name}/src/lib.rt"), format!("pub fn {name}() -> usize {{\n    7\n}}\n"));
     }
-    folder.write("crates/simulate/src/main.rt", PROGRAM);
+    for program in ["simulate", "join"] {
+        folder.write(&format!("crates/{program}/src/main.rt"), PROGRAM);
+    }
     folder
 }
 

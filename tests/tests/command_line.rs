@@ -1,14 +1,75 @@
-//! The options and the file of `./simulate`, and where it may be called from.
+//! The options and the files of `./simulate` and `./join`, and where they may be called from.
 
 use simulator_tests::script::{here, run, Ended, Terminal};
 use simulator_tests::small::{repository, Folder};
 use std::fs;
-use std::os::unix::fs::{symlink, MetadataExt, PermissionsExt};
+use std::os::unix::fs::symlink;
 use std::path::Path;
 use std::process::Command;
+use std::sync::{Mutex, PoisonError};
 
 const CTRL_D: &str = "\x04";
-const USAGE: &str = "usage: ./simulate [FILE]";
+
+/// A script at the root of the repository.
+struct Script {
+    name: &'static str,
+    usage: &'static str,
+    /// a line of its help
+    example: &'static str,
+    /// words that are as its usage says
+    right: &'static [&'static str],
+    wrong: &'static [&'static [&'static str]],
+}
+
+const SIMULATE: Script = Script {
+    name: "simulate",
+    usage: "usage: ./simulate [FILE]",
+    example: "./simulate examples/tour.txt",
+    right: &[],
+    wrong: &[&["--unknown"], &["-x", "a.txt"], &["a.txt", "a.txt"], &["--", "a.txt", "a.txt"]],
+};
+
+const JOIN: Script = Script {
+    name: "join",
+    usage: "usage: ./join FILE FILE",
+    example: "./join examples/office.net examples/house.net",
+    right: &["a.txt", "a.txt"],
+    wrong: &[
+        &["--unknown"],
+        &["-x", "a.txt", "a.txt"],
+        &[],
+        &["--"],
+        &["a.txt"],
+        &["--", "a.txt"],
+        &["a.txt", "a.txt", "a.txt"],
+        &["--", "a.txt", "a.txt", "a.txt"],
+    ],
+};
+
+const SCRIPTS: [Script; 2] = [SIMULATE, JOIN];
+
+impl Script {
+    fn command(&self) -> Command {
+        Command::new(format!("./{}", self.name))
+    }
+
+    /// The command with these words, in the folder of a repository where nothing is built: its run must build nothing.
+    fn run_unbuilt(&self, folder: &Folder, mut command: Command, words: &[&str]) -> Ended {
+        command.args(words).current_dir(folder.path(""));
+        let ended = run(command, "(show)\n");
+        assert!(!folder.path("target").exists(), "{}: something is built: {ended:?}", self.name);
+        ended
+    }
+
+    /// Such a run is refused with the status, in one line that has the text.
+    fn check_refused(&self, folder: &Folder, command: Command, words: &[&str], status: i32, text: &str) {
+        let ended = self.run_unbuilt(folder, command, words);
+        assert_eq!((ended.status, &ended.answers[..]), (Some(status), ""), "{words:?}: {ended:?}");
+        let lines: Vec<_> = ended.messages.lines().collect();
+        let says = |line: &str| line.starts_with(&format!("{}: ", self.name)) && line.contains(text);
+        assert!(matches!(lines[..], [line] if says(line)), "{words:?}: {ended:?}");
+    }
+}
 
 /// The folders of PATH, without those that have rt.
 fn path_without_rt() -> String {
@@ -17,35 +78,18 @@ fn path_without_rt() -> String {
     folders.join(":")
 }
 
-/// A run with these words, in a repository where nothing is built: it must build nothing.
-fn run_unbuilt(folder: &Folder, mut command: Command, words: &[&str]) -> Ended {
-    command.args(words).current_dir(folder.path(""));
-    let ended = run(command, "(show)\n");
-    assert!(!folder.path("target").exists(), "something is built: {ended:?}");
-    ended
-}
-
-/// Such a run is refused with the status, in one line that has the text.
-fn check_refused(folder: &Folder, command: Command, words: &[&str], status: i32, text: &str) {
-    let ended = run_unbuilt(folder, command, words);
-    assert_eq!((ended.status, &ended.answers[..]), (Some(status), ""), "{words:?}: {ended:?}");
-    let lines: Vec<_> = ended.messages.lines().collect();
-    assert!(
-        matches!(lines[..], [line] if line.starts_with("simulate: ") && line.contains(text)),
-        "{words:?}: {ended:?}"
-    );
-}
-
 #[test]
 fn help_needs_no_build() {
     let folder = repository();
-    for word in ["--help", "-h"] {
-        let mut command = Command::new("./simulate");
-        command.env("PATH", path_without_rt());
-        let ended = run_unbuilt(&folder, command, &[word]);
-        assert_eq!((ended.status, &ended.messages[..]), (Some(0), ""), "{ended:?}");
-        assert!(ended.answers.starts_with(&format!("{USAGE}\n")), "{ended:?}");
-        assert!(ended.answers.contains("\n    ./simulate examples/tour.txt\n"), "{ended:?}");
+    for script in SCRIPTS {
+        for word in ["--help", "-h"] {
+            let mut command = script.command();
+            command.env("PATH", path_without_rt());
+            let ended = script.run_unbuilt(&folder, command, &[word]);
+            assert_eq!((ended.status, &ended.messages[..]), (Some(0), ""), "{ended:?}");
+            assert!(ended.answers.starts_with(&format!("{}\n", script.usage)), "{ended:?}");
+            assert!(ended.answers.contains(&format!("\n    {}\n", script.example)), "{ended:?}");
+        }
     }
 }
 
@@ -53,8 +97,10 @@ fn help_needs_no_build() {
 fn wrong_options_are_refused() {
     let folder = repository();
     folder.write("a.txt", "(show)\n");
-    for words in [&["--unknown"][..], &["-x", "a.txt"], &["a.txt", "a.txt"], &["--", "a.txt", "a.txt"]] {
-        check_refused(&folder, Command::new("./simulate"), words, 2, USAGE);
+    for script in SCRIPTS {
+        for words in script.wrong {
+            script.check_refused(&folder, script.command(), words, 2, script.usage);
+        }
     }
 }
 
@@ -69,65 +115,108 @@ fn files_that_cannot_be_read_are_refused() {
         (&["calls"], "'calls' is a folder"),
     ];
     for (words, text) in cases {
-        check_refused(&folder, Command::new("./simulate"), words, 1, text);
+        SIMULATE.check_refused(&folder, SIMULATE.command(), words, 1, text);
     }
 }
 
-/// Every file is open to root, so root runs this one as nobody.
 #[test]
 fn a_file_without_permission_is_refused() {
     let folder = repository();
     folder.write("a.txt", "(show)\n");
-    let mut command = Command::new("./simulate");
-    if fs::metadata(folder.path("a.txt")).expect("the file is there").uid() == 0 {
-        let open = Command::new("chmod").args(["-R", "go+rX"]).arg(folder.path("")).status();
-        assert!(open.is_ok_and(|status| status.success()));
-        command = Command::new("setpriv");
-        command.args(["--reuid=65534", "--regid=65534", "--clear-groups", "./simulate"]);
-    }
-    fs::set_permissions(folder.path("a.txt"), fs::Permissions::from_mode(0o000)).expect("the file is closed");
-    check_refused(&folder, command, &["a.txt"], 1, "'a.txt' cannot be read");
+    let command = folder.close("a.txt", "./simulate");
+    SIMULATE.check_refused(&folder, command, &["a.txt"], 1, "'a.txt' cannot be read");
 }
 
 #[test]
 fn says_that_rt_is_missing() {
-    let mut command = Command::new("./simulate");
-    command.env("PATH", path_without_rt());
-    check_refused(&repository(), command, &[], 1, "rt, which proves and builds the program, is not on the PATH");
+    let folder = repository();
+    for script in SCRIPTS {
+        let mut command = script.command();
+        command.env("PATH", path_without_rt());
+        let text = "rt, which proves and builds the program, is not on the PATH";
+        script.check_refused(&folder, command, script.right, 1, text);
+    }
 }
 
-/// This repository's program, which must be built: from another folder, by a link, with files of any name, and no message.
+fn example(name: &str) -> String {
+    fs::read_to_string(here("examples").join(name)).expect("the example is read")
+}
+
+/// A folder with examples by other names, and with links to the scripts.
+fn elsewhere() -> Folder {
+    let folder = Folder::temporary();
+    for (name, text) in [("listing", "listing-a.txt"), ("office", "office.net"), ("house", "house.net")] {
+        folder.write(&format!("the {name}"), example(text));
+        folder.write(&format!("-{name}"), example(text));
+    }
+    for Script { name, .. } in SCRIPTS {
+        assert!(here("target/bin").join(name).is_file(), "build the program {name} first");
+        symlink(here(name), folder.path(&format!("{name} link"))).expect("a link is made");
+        symlink(format!("{name} link"), folder.path(&format!("{name} link to link"))).expect("a link is made");
+    }
+    folder
+}
+
+/// The right to run this repository's scripts: a test that waits long for another's run would show that.
+fn alone() -> impl Drop {
+    static RUNS: Mutex<()> = Mutex::new(());
+    RUNS.lock().unwrap_or_else(PoisonError::into_inner)
+}
+
+/// Asserts what a script writes in a folder, with nothing on standard error.
+fn check_answers(folder: &Folder, script: &Path, words: &[&str], input: &str, expected: (i32, &str)) {
+    let mut command = Command::new(script);
+    command.args(words).current_dir(folder.path(""));
+    let ended = run(command, input);
+    let found = (ended.status, &ended.answers[..], &ended.messages[..]);
+    assert_eq!(found, (Some(expected.0), expected.1, ""), "{} {words:?}", script.display());
+}
+
+/// This repository's programs, which must be built: from another folder, by a link, with files of any name, and no message.
 #[test]
 fn answers_from_anywhere() {
-    assert!(here("target/bin/simulate").is_file(), "build the program first");
-    let listing = fs::read_to_string(here("examples/listing-a.txt")).expect("the listing is read");
-    let expected = fs::read_to_string(here("examples/listing-a.out")).expect("its answers are read");
-    let folder = Folder::temporary();
-    for name in ["a listing.txt", "-listing.txt"] {
-        folder.write(name, &listing);
-    }
-    symlink(here("simulate"), folder.path("link")).expect("a link is made");
-    symlink("link", folder.path("link to link")).expect("a link is made");
-    let script = here("simulate");
-    let script = script.to_str().expect("the path is text");
+    let _alone = alone();
+    let folder = elsewhere();
+    let (listing, answers, both) =
+        (example("listing-a.txt"), example("listing-a.out"), example("office-and-house.net"));
+    let (simulate, join) = (here("simulate"), here("join"));
     let cases = [
-        (script, &["a listing.txt"][..], ""),
-        (script, &["--", "-listing.txt"], ""),
-        ("./link to link", &["./-listing.txt"], ""),
-        ("./link", &[], &listing),
+        (&simulate, &["the listing"][..], "", &answers),
+        (&simulate, &["--", "-listing"], "", &answers),
+        (&"./simulate link to link".into(), &["./-listing"], "", &answers),
+        (&"./simulate link".into(), &[], &listing, &answers),
+        (&join, &["--", "-office", "-house"], "", &both),
+        (&"./join link to link".into(), &["./-house", "the office"], "", &both),
+        (&"./join link".into(), &["the house", "/dev/stdin"], &example("office.net"), &both),
     ];
-    for (program, words, input) in cases {
-        let mut command = Command::new(program);
-        command.args(words).current_dir(folder.path(""));
-        let ended = run(command, input);
-        let found = (ended.status, &ended.answers[..], &ended.messages[..]);
-        assert_eq!(found, (Some(0), &expected[..], ""), "{program} {words:?}");
+    for (script, words, input, expected) in cases {
+        check_answers(&folder, script, words, input, (0, expected));
+    }
+}
+
+/// The answer alone says why, and the status that it is a refusal; the join of two empty files is none.
+#[test]
+fn refused_joins() {
+    let _alone = alone();
+    let folder = elsewhere();
+    folder.write("empty", "");
+    folder.write("other house", example("house.net").replace("(route 24 0 20)", "(route 24 0 21)"));
+    let cases = [
+        (&["the house", "other house"][..], (1, "(no 14)\n")),
+        (&["the house", "the listing"], (1, "(no 15)\n")),
+        (&["", "the house"], (1, "(no 15)\n")),
+        (&["--", "--help", "the house"], (1, "(no 15)\n")),
+        (&["empty", "empty"], (0, "")),
+    ];
+    for (words, expected) in cases {
+        check_answers(&folder, &here("join"), words, "", expected);
     }
 }
 
 /// It says so on standard error where calls are typed; a file, or input from one, needs no such line.
 #[test]
 fn says_that_it_reads_the_keyboard() {
+    let _alone = alone();
     assert!(here("target/bin/simulate").is_file(), "build the program first");
     let folder = Folder::temporary();
     let messages = folder.path("messages");
@@ -139,7 +228,7 @@ fn says_that_it_reads_the_keyboard() {
     let line = "simulate: reads calls from the keyboard, one on each line; Ctrl-D ends\n";
     assert_eq!(fs::read_to_string(messages).expect("the messages are read"), line);
 
-    let answers = fs::read_to_string(here("examples/listing-a.out")).expect("the answers are read");
+    let answers = example("listing-a.out");
     for line in ["exec ./simulate examples/listing-a.txt", "exec ./simulate <examples/listing-a.txt"] {
         let ended = Terminal::start(line, &here("")).end();
         assert_eq!(ended, (Some(0), answers.replace('\n', "\r\n")), "{line}");

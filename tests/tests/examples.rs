@@ -1,6 +1,6 @@
-//! The examples, on both implementations: each listing gives the output that stands beside it.
+//! The examples, on both implementations: each listing gives the output that stands beside it, and two networks their join.
 
-use simulator_tests::compare::check_output;
+use simulator_tests::compare::{check_join, check_output};
 use simulator_tests::script::here;
 use simulator_tests::simulator::Simulator;
 use std::fs;
@@ -16,6 +16,17 @@ fn each_example_gives_its_output() {
         let read = |path| fs::read(path).expect("the example is read");
         check_output(&read(listing.clone()), &read(listing.with_extension("out")));
     }
+}
+
+/// The join is a network's text again: read on a fresh start, it gives itself.
+#[test]
+fn networks_made_one() {
+    let [office, house, both] =
+        ["office", "house", "office-and-house"].map(|name| here(&format!("examples/{name}.net")));
+    let network = fs::read(&both).expect("the example is read");
+    check_join("the office and the house", [&office, &house], &network);
+    let lines = network.iter().filter(|&&byte| byte == b'\n').count();
+    check_output(&[&network, &b"(net)\n"[..]].concat(), &[b"(ok)\n".repeat(lines), network].concat());
 }
 
 /// The figures that the examples' README gives: session 1's steps up to its end, and session 2's.

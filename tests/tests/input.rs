@@ -9,7 +9,6 @@ use std::io::Write;
 use std::os::unix::process::ExitStatusExt;
 use std::process::{ChildStdin, Command, ExitStatus};
 use std::thread;
-use std::time::Duration;
 
 const SIGPIPE: i32 = 13;
 
@@ -49,17 +48,8 @@ fn lines_cut_over_several_writes() {
     let list = list(setting("SEED", 6), 1, 400, LateNetwork::Yes);
     let whole = list.input();
     let mut program = Running::start(program::command());
-    let mut input = program.take_input();
-    let writer = thread::spawn(move || {
-        let mut rest = &whole[..];
-        while !rest.is_empty() {
-            let (piece, after) = rest.split_at(rest.len().min(1 + random.index(60)));
-            input.write_all(piece).expect("the piece is written");
-            // long enough for the program to read the piece alone
-            thread::sleep(Duration::from_millis(1));
-            rest = after;
-        }
-    });
+    let input = program.take_input();
+    let writer = thread::spawn(move || program::write_in_pieces(input, &whole, &mut random));
     let output = program.finish();
     writer.join().expect("the input is written");
     assert_eq!(difference_from_list(&list, &output), None);

@@ -4,7 +4,8 @@
 use simulator_tests::compare::{check_output, check_output_of, difference, is_network};
 use simulator_tests::form::Form;
 use simulator_tests::lists::{input, list, LateNetwork};
-use simulator_tests::network::{route_form, Network, Node, DEFAULT};
+use simulator_tests::network::{route_form, Network, DEFAULT};
+use simulator_tests::networks::{any_network, any_node, fullest, neighbours, text, three_nodes};
 use simulator_tests::random::{check_met, for_each_index, setting, Random};
 use simulator_tests::simulator::Simulator;
 use simulator_tests::{lines, program};
@@ -36,51 +37,10 @@ const KINDS: &str = "no route|exact routes alone|defaults alone|both|a default o
 /// Asserts that these calls give the network's text, and that the same text, read by a fresh program, gives it again.
 fn round_trip(name: &str, network: &Network, calls: &[String]) {
     let forms = network.forms();
-    let text = input(&forms);
+    let text = text(network);
     let calls = input(calls);
     check_output_of(name, &[&calls, NET].concat(), &[&lines::run(&calls), &text[..]].concat());
     check_output_of(name, &[&text, NET].concat(), &[b"(ok)\n".repeat(forms.len()), text].concat());
-}
-
-/// The network of these nodes, with the routes that `next` gives for at and destination; that of a default is among them.
-fn with_routes(nodes: BTreeMap<u64, Node>, mut next: impl FnMut(u64, u64) -> Option<u64>) -> Network {
-    let destinations = || nodes.keys().copied().chain([DEFAULT]);
-    let pairs = nodes.keys().flat_map(|&at| destinations().map(move |destination| (at, destination)));
-    let others = pairs.filter(|(at, destination)| at != destination);
-    let routes = others.filter_map(|pair| Some((pair, next(pair.0, pair.1)?))).collect();
-    Network { nodes, routes }
-}
-
-/// A node of any kind with about `of_four` of every four credentials.
-fn any_node(random: &mut Random, of_four: u64) -> Node {
-    let mut credentials = || (0..64).filter(|_| random.below(4) < of_four).collect();
-    let (has, needs) = (credentials(), credentials());
-    Node { gateway: random.one_in(2), has, needs }
-}
-
-/// A network of any size, from none to all of its credentials, exact routes and defaults.
-fn any_network(random: &mut Random) -> Network {
-    let mut numbers: Vec<u64> = (1..=32).collect();
-    random.shuffle(&mut numbers);
-    numbers.truncate(random.pick(&[1, 2, 3, 5, 8, 13, 21, 31, 32]));
-    // of every four
-    let (credentials, routes, defaults) = (random.below(5), random.below(5), random.below(5));
-    let nodes = numbers.iter().map(|&number| (number, any_node(random, credentials))).collect();
-    with_routes(nodes, |at, destination| {
-        let others: Vec<u64> = numbers.iter().copied().filter(|&node| node != at).collect();
-        let of_four = if destination == DEFAULT { defaults } else { routes };
-        (random.below(4) < of_four && !others.is_empty()).then(|| random.pick(&others))
-    })
-}
-
-/// The network whose text is the longest: every credential, every route and default, and no next hop of one digit.
-fn fullest() -> Network {
-    let all: BTreeSet<u64> = (0..64).collect();
-    let node = |number| (number, Node { gateway: number % 2 == 0, has: all.clone(), needs: all.clone() });
-    with_routes((1..=32).map(node).collect(), |at, destination| {
-        let others: Vec<u64> = (10..=32).filter(|&node| node != at).collect();
-        Some(others[destination as usize % others.len()])
-    })
 }
 
 /// Calls that give the network in any order, with refused ones between. A route that comes before its nodes is refused,
@@ -155,7 +115,7 @@ fn the_empty_network() {
 #[test]
 fn the_fullest_network() {
     let network = fullest();
-    let text = input(&network.forms());
+    let text = text(&network);
     // 31 exact routes and a default of each node
     assert_eq!((network.nodes.len(), network.routes.len(), text.len()), (32, 32 * (31 + 1), 29_376));
     // within the 400 bytes of a line that is read
@@ -191,7 +151,7 @@ fn kinds(network: &Network) -> BTreeSet<String> {
         (true, false) => "defaults alone",
         (false, false) => "both",
     }]);
-    if defaults.len() == network.nodes.len() {
+    if !defaults.is_empty() && defaults.len() == network.nodes.len() {
         kinds.insert("a default of each node");
     }
     for ((at, _), next) in exact {
@@ -203,51 +163,15 @@ fn kinds(network: &Network) -> BTreeSet<String> {
     kinds.into_iter().map(String::from).collect()
 }
 
-/// The network, and each that differs from it in one credential, one kind or one next hop, of a default too.
-fn neighbours(network: &Network) -> Vec<Network> {
-    let mut all = vec![network.clone()];
-    let mut add = |change: &dyn Fn(&mut Network)| {
-        let mut other = network.clone();
-        change(&mut other);
-        all.push(other);
-    };
-    for number in network.nodes.keys() {
-        add(&|other| node_of(other, number).gateway ^= true);
-        for credential in 0..64 {
-            add(&|other| toggle(&mut node_of(other, number).has, credential));
-            add(&|other| toggle(&mut node_of(other, number).needs, credential));
-        }
-    }
-    for (route, next) in &network.routes {
-        for another in network.nodes.keys().filter(|&node| *node != route.0 && node != next) {
-            add(&|other| *other.routes.get_mut(route).expect("the route is there") = *another);
-        }
-    }
-    all
-}
-
-fn node_of<'a>(network: &'a mut Network, number: &u64) -> &'a mut Node {
-    network.nodes.get_mut(number).expect("the node is there")
-}
-
-fn toggle(set: &mut BTreeSet<u64>, credential: u64) {
-    if !set.remove(&credential) {
-        set.insert(credential);
-    }
-}
-
 #[test]
 fn different_networks_have_different_texts() {
     let mut random = Random::new(setting("SEED", 10), 0);
-    let nodes = [2, 9, 31].map(|number| (number, any_node(&mut random, 2)));
-    let default = |at: u64| if at == 9 { 31 } else { 9 };
-    let next = |at, destination| if destination == DEFAULT { default(at) } else { destination };
-    let networks = neighbours(&with_routes(nodes.into(), |at, destination| Some(next(at, destination))));
+    let networks = neighbours(&three_nodes(&mut random));
     // a kind and twice 64 credentials of each node, and another next hop of each route and of each default
     assert_eq!(networks.len(), 1 + 3 * (1 + 2 * 64) + 6 + 3);
     let texts = for_each_index(networks.len() as u64, |index| {
         // all are given by as many calls, so the answers before the text are the same
-        program::run(&[&input(&networks[index as usize].forms()), NET].concat())
+        program::run(&[&text(&networks[index as usize]), NET].concat())
     });
     assert_eq!(texts.iter().collect::<BTreeSet<_>>().len(), networks.len(), "two networks have one text");
 }

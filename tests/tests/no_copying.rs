@@ -37,6 +37,30 @@ const NAMED: &[(&str, &str)] = &[
     ("simulate", "libc::read"),
     ("simulate", "io::count"),
     ("simulate", "io::write_all"),
+    // a join's lines: parts of the two files, copied to the caller's slice
+    ("joins", "bytes::copy"),
+    ("joins", "&mut out[end..]"),
+    // what a fresh state answers to a file, and the text of its network: compared with the file, and written nowhere
+    ("joins", "[0u8; 70976]"),
+    ("joins", "&mut scratch"),
+    ("joins", "&mut scratch"),
+    // the files and the output of the program `join`, which is the caller, and the names of its files
+    ("join", "[0u8; 29377]"),
+    ("join", "[0u8; 29377]"),
+    ("join", "[0u8; 65536]"),
+    ("join", "&mut a"),
+    ("join", "&mut b"),
+    ("join", "&mut out"),
+    ("join", "&mut buffer[size..]"),
+    ("join", "&mut path"),
+    ("join", "io::buffer"),
+    ("join", "io::count"),
+    ("join", "io::write_all"),
+    ("join", "libc::STDOUT_FILENO"),
+    ("join", "libc::close"),
+    ("join", "libc::read"),
+    ("join", "os::arg"),
+    ("join", "os::open_read"),
     // the next hops: numbers of nodes, whose digits a report writes
     ("calculus", "[u8; 1056]"),
     ("reports", "[u8; 1056]"),
@@ -204,6 +228,7 @@ fn a_buffer_put_in_is_found() {
         ("answers/src/room.rt", "    if size < room", "let mut word = *b\"(made\";", "*b"),
         ("reports/src/network.rt", "    if 0 < hop {", "let mut routes: [u8; 1056] = [0; 1056];", "[0; 1056]"),
         ("simulate/src/main.rt", "    run(&mut input", "let mut out = [0u8; 131072];", "[0u8; 131072]"),
+        ("joins/src/merge.rt", "        end += size;", "let mut lines = [0u8; 65536];", "[0u8; 65536]"),
         // an array of a library
         ("simulator/src/call.rt", "    let reading = read(line);", "let mut line = io::buffer();", "io::buffer"),
         // a field
@@ -212,6 +237,7 @@ fn a_buffer_put_in_is_found() {
         // a copy
         ("simulator/src/call.rt", "    let reading = read(line);", "out[0] = line[0];", "out[0] ="),
         ("reports/src/show.rt", "    write_end(out, next)", "out[next] |= out[at];", "out[next] ="),
+        ("joins/src/merge.rt", "        end += size;", "out[end] = line[0];", "out[end] ="),
         ("pieces/src/lib.rt", "    let kept = keep", "keep(&mut out[from..], 4, to);", "&mut out[from..]"),
         ("answers/src/put.rt", "    put_word(out, q, b\")\\n\")", "put_word(out, q, &out[..at]);", "&out[..at]"),
         // a way for others to have bytes copied

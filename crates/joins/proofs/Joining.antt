@@ -1,30 +1,24 @@
 -- A file read, and a join by its cases. Assumes nothing.
 use mathlib.Core.Path.{_≡_, refl, sym, ap, subst, _∙_}
-use mathlib.Core.Bool.{Bool, true, false, cond, _&&_}
-use mathlib.Core.List.{List, [], _∷_, map}
-use mathlib.Core.Option.{none, some}
+use mathlib.Core.Bool.{Bool, true, false}
+use mathlib.Core.List.{List, [], _∷_}
 use Prim.Native.Nat.{ℕ, _-_, _≤_, _<_}
 use native.Mathlib.Nat.{zero-add}
 use native.Mathlib.Omega.{arith}
 use borrow.Author.Tests.{lt-ltb, le-ltb, le-leb}
-use lib.Dec.{ltb}
 use lib.ListN.{length, take, drop}
-use lib.Seq.{sets, sets-eq, take-at}
+use lib.Seq.{sets-eq, take-at}
 use Rattle.calculus.proofs.Tests.{never}
-use Rattle.calculus.specs.declared.answer.Refusal.{Refusal}
-use Rattle.calculus.specs.declared.answer.Refusal.the-variants.{Short, Clash, Unsorted}
+use Rattle.calculus.specs.declared.answer.Refusal.the-variants.{Unsorted}
 use Rattle.calculus.specs.declared.network.Network.{Network}
 use Rattle.calculus.specs.declared.state.State.{State}
 use Rattle.forms.specs.Text.{net, text, listText}
-use Rattle.answers.specs.Write.{hasRoom, Writes}
+use Rattle.answers.specs.Write.{Writes}
 use Rattle.model.specs.NetworkText.{networkText, networkLines}
-use Rattle.model.specs.Calls.{reported, answered, roomyCall}
+use Rattle.model.specs.Calls.{reported, answered}
 use Rattle.model.specs.State.{fresh}
 use Rattle.model.specs.Batch.{answeredText}
-use Rattle.model.specs.Texts.{afterLines}
-use Rattle.model.proofs.Texts.{texts}
-use Rattle.model.specs.GivenBack.{Consistent}
-use Rattle.model.specs.Join.{File, sameText, isNetworkText, networkIn, isSorted, networkOf, clash, union, refusedJoin, shortJoin, networkReply, joinNetworks, join}
+use Rattle.model.specs.Join.{File, sameText, refusedJoin, shortJoin, joinNetworks, join}
 use Rattle.model.proofs.GivenBack.{given-back}
 use Rattle.model.proofs.FileRead.{Reads, file-read}
 use Rattle.model.proofs.Union.{sorted-text, unions}
@@ -33,7 +27,8 @@ use Rattle.simulator.specs.declared.calls.Answered.{Answered}
 use Rattle.simulator.specs.Reply.{Replies}
 use Rattle.simulator.specs.declared.call.Reply.{Reply}
 use Rattle.joins.specs.Front.{Front}
-use Rattle.joins.specs.Join.{fileOf, Finds, JoinReplies}
+use Rattle.joins.specs.Join.{fileOf, JoinReplies}
+use Rattle.joins.specs.Merge.{Finds}
 use Rattle.joins.specs.declared.JoinReply.{JoinReply}
 use Rattle.model.specs.Union.{IsTextOf}
 use Rattle.joins.specs.declared.Contents.{Contents}

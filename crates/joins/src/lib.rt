@@ -17,7 +17,8 @@ ghost use Prim.Native.Nat.{_≤_};
 ghost use lib.ListN.{length};
 ghost use Rattle.model.specs.Join as spec;
 ghost use Rattle.model.specs.Union.{IsTextOf};
-ghost use Rattle.joins.specs.Join.{fileOf, Finds, JoinReplies};
+ghost use Rattle.joins.specs.Join.{fileOf, JoinReplies};
+ghost use Rattle.joins.specs.Merge.{Finds};
 
 // How many bytes of the lent output a join wrote, and whether it was refused.
 pub struct JoinReply {

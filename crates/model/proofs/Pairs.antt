@@ -1,7 +1,7 @@
 -- Two lists, place by place. Assumes nothing.
 use mathlib.Core.Path.{_≡_, refl, sym, ap, _∙_}
 use mathlib.Core.Bool.{Bool, true, false}
-use mathlib.Core.List.{List, [], _∷_}
+use mathlib.Core.List.{List, [], _∷_, _++_}
 use Prim.Native.Nat.{ℕ, zero, suc, _<_}
 use native.Mathlib.Omega.{arith}
 use borrow.Author.Tests.{eqb-true, eq-eqb}
@@ -58,6 +58,14 @@ module _ {A : Type 0} (f : A → A → A) where
   together-length [] m e = refl
   together-length (x ∷ l) [] e = absurd (omega arith)
   together-length (x ∷ l) (y ∷ m) e = ap suc (together-length l m (omega arith))
+
+  pub together-append : (l m l′ m′ : List A) → length l ≡ length l′
+      → together f (l ++ m) (l′ ++ m′) ≡ together f l l′ ++ together f m m′
+  unfolding together
+  together-append [] m [] m′ e = refl
+  together-append [] m (y ∷ l′) m′ e = absurd (omega arith)
+  together-append (x ∷ l) m [] m′ e = absurd (omega arith)
+  together-append (x ∷ l) m (y ∷ l′) m′ e = rw (together-append l m l′ m′ (omega arith))
 
   module _ (d : A) (z : f d d ≡ d) where
     pub together-at : (l m : List A) → length l ≡ length m → (i : ℕ) → getD (together f l m) i d ≡ f (getD l i d) (getD m i d)

@@ -23,6 +23,7 @@ use Rattle.model.specs.GivenBack.{Consistent}
 use Rattle.model.specs.Join.{together, linesFrom, placeLines, isThere, union}
 use Rattle.model.specs.Lists.{All}
 use Rattle.model.proofs.Lists.{all-append}
+use Rattle.model.proofs.Pairs.{together-append}
 
 -- ---- the lines of a table
 
@@ -117,20 +118,13 @@ lines-together f isGiven there k (x ∷ l) [] = refl
 lines-together {A} f isGiven there k (x ∷ l) (y ∷ m) =
     rw (either-first (λ (z : A). joined (map formLine (f k z))) (isGiven x) x y (there k x), lines-together f isGiven there (k + 1) l m)
 
-together-append : {A : Type 0} (f : A → A → A) (l m l′ m′ : List A) → length l ≡ length l′
-    → together f (l ++ m) (l′ ++ m′) ≡ together f l l′ ++ together f m m′
-unfolding together
-together-append f [] m [] m′ e = refl
-together-append f [] m (y ∷ l′) m′ e = absurd (omega arith)
-together-append f (x ∷ l) m [] m′ e = absurd (omega arith)
-together-append f (x ∷ l) m (y ∷ l′) m′ e = rw (together-append f l m l′ m′ (omega arith))
-
 pub union-places : (n m : Network) → Consistent n → Consistent m → placeLines (union n m) ≡ together firstOf (placeLines n) (placeLines m)
 union-places n m h g =
     let nodes = lines-together nodeForm (λ x. x .given) (λ a x. form-there (x .given) _) 1 (n .nodes) (m .nodes) in
     let routes = lines-together routeForm (λ x. ltb 0 x) (λ p x. form-there (ltb 0 x) _) 0 (n .routes) (m .routes) in
     let same : length (nodeLines n) ≡ length (nodeLines m) = lines-length nodeForm 1 (n .nodes) ∙ h .nodes ∙ sym (g .nodes) ∙ sym (lines-length nodeForm 1 (m .nodes)) in
-    rw (nodes, routes) (sym (together-append firstOf (nodeLines n) (routeLines n) (nodeLines m) (routeLines m) same))
+    ap (λ (l : List (List ℕ)). l ++ routeLines (union n m)) nodes ∙ ap (λ (l : List (List ℕ)). together firstOf (nodeLines n) (nodeLines m) ++ l) routes
+    ∙ sym (together-append firstOf (nodeLines n) (routeLines n) (nodeLines m) (routeLines m) same)
 
 -- ---- each is one line
 

@@ -1,5 +1,5 @@
 -- `join` meets its contract, by its cases: 0, then 15, then 14. Assumes nothing.
-use mathlib.Core.Path.{_≡_, refl}
+use mathlib.Core.Path.{refl}
 use Prim.Native.Nat.{ℕ}
 use borrow.Author.Needs.{needs}
 use lib.ListN.{length}

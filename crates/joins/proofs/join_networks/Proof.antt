@@ -1,6 +1,5 @@
 -- `join_networks` meets its contract: a clash is refused, else both are merged. Assumes nothing.
 use mathlib.Core.Path.{refl}
-use mathlib.Core.List.{List}
 use borrow.Author.Needs.{needs}
 use Rattle.calculus.proofs.Tests.{join}
 use Rattle.joins.proofs.join_networks.Statement.{statement}

@@ -1,9 +1,7 @@
 -- `read_file` meets its contract: a fresh state is given the file and asked for its network. Assumes nothing.
-use mathlib.Core.Path.{_≡_, refl, sym, ap, _∙_}
+use mathlib.Core.Path.{sym, ap, _∙_}
 use native.Mathlib.Omega.{arith}
 use borrow.Author.Needs.{needs}
-use lib.ListN.{length}
-use Rattle.calculus.specs.declared.state.State.{State}
 use Prim.Native.Nat.{_≤_}
 use Rattle.model.specs.Join.{sameText}
 use Rattle.model.proofs.GivenBack.{given-back}
