@@ -140,6 +140,8 @@ fn put_refusals() {
     put_answer(Answer::No(Refusal::NoItem));
     put_answer(Answer::No(Refusal::Waiting));
     put_answer(Answer::No(Refusal::Full));
+    put_answer(Answer::No(Refusal::Clash));
+    put_answer(Answer::No(Refusal::Unsorted));
 }
 
 fn put_losses() {
