@@ -11,7 +11,7 @@ use std::fs;
 /// Programs that the gate runs to print what single calls of the library write: no answer of the simulator goes through them.
 const CASES: [&str; 2] = ["call_cases", "form_cases"];
 
-/// The crates that write lines. What they are lent to read are words of the form language, which are constants: they borrow
+/// The crates that make lines out of words and numbers. What they are lent to read are words of the form language, which are constants: they borrow
 /// nothing, and nobody outside can lend them bytes: no public function takes any, and none of the file `PUT` is exported.
 const WRITERS: [&str; 2] = ["answers", "reports"];
 const PUT: &str = "answers/src/put.rt";
@@ -22,7 +22,7 @@ const HELD: [&str; 10] = ["bool", "false", "u16", "u64", "0u64", "Node", "Part",
 
 /// What the source has of these, by crate.
 const NAMED: &[(&str, &str)] = &[
-    // the one place that writes a byte of an answer
+    // the one place that writes a byte of a call's answer
     ("answers", "out[at] ="),
     // the caller's input, of which the rest is moved to the front
     ("pieces", "input[i] ="),

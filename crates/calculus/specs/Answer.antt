@@ -1,4 +1,4 @@
--- Document 01's number of each refusal and each loss. Assumes nothing.
+-- The number of each refusal and each loss, document 01's, and document 02's of a join. Assumes nothing.
 use Prim.Native.Nat.{ℕ}
 use Rattle.calculus.specs.declared.answer.Refusal as refusal
 use Rattle.calculus.specs.declared.answer.Refusal.the-variants.{Short, Unreadable, Range, Double, Unknown, Late, Taken, Idle, Same, Gateway, Spent, NoItem, Waiting, Full, Clash, Unsorted}

@@ -4,7 +4,7 @@ use crate::number::Spi;
 ghost use mathlib.Core.Path.{_≡_};
 ghost use Rattle.calculus.specs.Answer.{lossNumber, refusalNumber};
 
-// Why a call or a join is refused, in the order of document 01's table.
+// Why a call or a join is refused, in the order of the numbers.
 pub enum Refusal {
     Short,
     Unreadable,
@@ -20,13 +20,13 @@ pub enum Refusal {
     NoItem,
     Waiting,
     Full,
-    // of a join (document 02)
+    // of a join, document 02's
     Clash,
     Unsorted,
 }
 
 impl Refusal {
-    // Its number in document 01's table.
+    // Its number in document 01's table, or document 02's.
     pub fn number(self) -> u8
         ensures { λ r. ⌜ r ≡ refusalNumber self ⌝ }
     {

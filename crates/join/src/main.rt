@@ -32,8 +32,8 @@ fn read_all(fd: i32, buffer: &mut [u8]) -> FileRead
     }
 }
 
-// Reads the file that argument i names; none has that name where the argument is missing. No network's text has more than 29,376
-// bytes, so a file that fills a buffer of 29,377 is refused as the whole file would be.
+// Reads the file that argument i names; where that is missing or too long the name is empty, and no file has that. No network's text has
+// more than 29,376 bytes, so a file that fills a buffer of 29,377 is refused as the whole file would be (`cut` in model/specs/Union.antt).
 fn read_file(i: usize, buffer: &mut [u8]) -> FileRead
     ensures { λ r. ⌜ Counts (r .size) (now (buffer .exit)) ⌝ }
 {

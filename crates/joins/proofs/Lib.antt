@@ -1,4 +1,4 @@
 -- Laws that belong to no one function.
-pub mod Readings
+pub mod LinesRead
 pub mod Merges
-pub mod Joining
+pub mod JoinCases

@@ -6,52 +6,26 @@ use native.Mathlib.Omega.{arith}
 use borrow.Author.Tests.{lt-ltb, le-ltb}
 use lib.ListN.{length, take, drop, length-append, length-drop, drop-of-length-le}
 use lib.Seq.{length-take-le, take-add, take-length, drop-drop, take-at, drop-at, take-append-seam}
-use Rattle.calculus.proofs.Tests.{either}
 use Rattle.calculus.specs.declared.network.Network.{Network}
 use Rattle.forms.specs.Bytes.{joined}
 use Rattle.forms.proofs.Parts as parts
-use Rattle.model.specs.Join.{placeLines, isThere, together, union}
+use Rattle.model.specs.Join.{placeLines, together, union}
 use Rattle.model.specs.NetworkText.{networkText}
 use Rattle.model.specs.Union.{IsTextOf}
 use Rattle.model.proofs.GivenBack.{given-back}
+use Rattle.model.proofs.Union.{unions}
 use Rattle.model.proofs.PlaceLines.{firstOf, union-places, text-places}
 use Rattle.joins.specs.Front.{Front}
-use Rattle.joins.proofs.Readings.{Reading, reading-more, linesLeft, Read}
+use Rattle.joins.proofs.LinesRead.{Unread, unread-less, linesLeft, LineRead}
 
--- ---- the width: each line is one of either text
-
-width-first : (x y : List ℕ) → length (firstOf x y) ≤ length x + length y
-width-first x y = either (λ z. length z ≤ length x + length y) (isThere x) (λ e. omega arith) (λ e. omega arith)
-
-width-together : (l m : List (List ℕ)) → length (joined (together firstOf l m)) ≤ length (joined l) + length (joined m)
-unfolding together
-width-together [] m = omega arith
-width-together (x ∷ l) [] = omega arith
-width-together (x ∷ l) (y ∷ m) =
-    omega (
-      arith,
-      width-first x y,
-      width-together l m,
-      length-append (firstOf x y) (joined (together firstOf l m)),
-      length-append x (joined l),
-      length-append y (joined m),
-    )
+-- ---- the whole text
 
 module _ {n m : Network} {a b : List ℕ} (g : IsTextOf a n × IsTextOf b m) where
   pub whole-lines : networkText (union n m) ≡ joined (together firstOf (placeLines n) (placeLines m))
   whole-lines = text-places (union n m) ∙ ap joined (union-places n m (g .0 .consistent) (g .1 .consistent))
 
-  pub whole-width : length (networkText (union n m)) ≤ 65536
-  whole-width =
-      omega (
-        arith,
-        ap length whole-lines,
-        width-together (placeLines n) (placeLines m),
-        ap length (text-places n),
-        ap length (text-places m),
-        given-back .fits n (g .0 .consistent),
-        given-back .fits m (g .1 .consistent),
-      )
+  pub whole-width : length (networkText (union n m)) ≤ 29376
+  whole-width = given-back .fits (union n m) (unions .consistent n m (g .0 .consistent) (g .1 .consistent))
 
 -- ---- the first of two lines
 
@@ -66,9 +40,9 @@ module _ {x first : List ℕ} (e : first ≡ x) (y : List ℕ) where
 
 -- the lines of the first k places are read, and the first of each two is put
 pub record Merging (n m : Network) (a b out₀ out : List ℕ) (i j end k : ℕ) : Type 0 where
-  pub first : Reading a i (linesLeft n k)
-  pub second : Reading b j (linesLeft m k)
-  pub whole : Reading (networkText (union n m)) end (together firstOf (linesLeft n k) (linesLeft m k))
+  pub first : Unread a i (linesLeft n k)
+  pub second : Unread b j (linesLeft m k)
+  pub whole : Unread (networkText (union n m)) end (together firstOf (linesLeft n k) (linesLeft m k))
   pub width : length (networkText (union n m)) ≤ length out₀
   pub bytes : out ≡ take end (networkText (union n m)) ++ drop end out₀
 
@@ -89,15 +63,15 @@ module _ {n m : Network} {a b out₀ out : List ℕ} {i j end k : ℕ} (s : Merg
   merging-all e =
       let left : drop end text ≡ [] = s .whole .rest ∙ rw e in
       let all : end ≡ length text = omega (arith, s .whole .inside, length-drop end text, ap length left) in
-      record { place = all; bytes = s .bytes ∙ rw (all, take-length) }
+      record { size = all; bytes = s .bytes ∙ rw (all, take-length) }
 
-  module _ {x y line : List ℕ} (p : Read n a k i x) (q : Read m b k j y) (e : line ≡ firstOf x y) where
-    next-line : Reading text end (line ∷ together firstOf (linesLeft n (k + 1)) (linesLeft m (k + 1)))
+  module _ {x y line : List ℕ} (p : LineRead n a k i x) (q : LineRead m b k j y) (e : line ≡ firstOf x y) where
+    next-line : Unread text end (line ∷ together firstOf (linesLeft n (k + 1)) (linesLeft m (k + 1)))
     unfolding together
     next-line = rw e (rw (p .line, q .line) at (s .whole))
 
     pub merging-end : end + length line ≤ length text
-    merging-end = reading-more next-line .inside
+    merging-end = unread-less next-line .inside
 
     -- the part of the output behind `end` is lent, and comes back with the line at its front
     pub merging-more : {size : ℕ} {part ofA ofB : List ℕ} → size ≡ length line
@@ -112,7 +86,7 @@ module _ {n m : Network} {a b out₀ out : List ℕ} {i j end k : ℕ} (s : Merg
         rw (z, u, v) record {
           first = p .more;
           second = q .more;
-          whole = reading-more next-line;
+          whole = unread-less next-line;
           width = s .width;
           bytes = rw (w, rest, lent, put, old, more, take-length, drop-drop, append-nil, append-assoc);
         }

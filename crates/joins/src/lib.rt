@@ -33,8 +33,9 @@ pub struct Contents {
 }
 
 // Reads a file on a fresh state and asks that for its network: a file as `(net)` writes it gives back its own bytes. The scratch has
-// room for the answers, `(ok)` to each of at most 1,088 lines, and for a call behind them.
-fn read_file(is_read: bool, text: &[u8]) -> Contents
+// room for the answers, `(ok)` to each of at most 1,088 lines, and for a call behind them. Where more is answered the calls end early: then the
+// file is no network's text, and not that of what was read either.
+fn find_network(is_read: bool, text: &[u8]) -> Contents
     ensures { λ r. ⌜ Finds (fileOf «is_read» (now (text .entry))) r ⌝ }
 {
     if is_read {
@@ -100,9 +101,9 @@ pub fn join<'a>(
             status: Status::Refused(Refusal::Short),
         };
     }
-    let first = read_file(is_a_read, a);
+    let first = find_network(is_a_read, a);
     if first.sorted {
-        let second = read_file(is_b_read, b);
+        let second = find_network(is_b_read, b);
         if second.sorted {
             return join_networks(a, b, first.network, second.network, out);
         }

@@ -14,9 +14,9 @@ ghost use Rattle.joins.specs.Merge as spec;
 ghost use Rattle.joins.specs.Front.{Front};
 
 // Whether the network has a line at place k: that of node k + 1 or, behind the 32 nodes, of the route at place k − 32.
-fn has_line(n: Network, k: usize) -> bool
+fn has_entry(n: Network, k: usize) -> bool
     requires { ⌜ k < 1088 ⌝ }
-    ensures { λ r. ⌜ r ≡ spec.hasLine n k ⌝ }
+    ensures { λ r. ⌜ r ≡ spec.hasEntry n k ⌝ }
 {
     if k < 32 {
         let nodes = n.nodes;
@@ -28,8 +28,8 @@ fn has_line(n: Network, k: usize) -> bool
 }
 
 // The line of `s` that starts at `from`, with its newline, if it is there; else the empty part.
-fn line_at<'a>(s: &'a [u8], from: usize, is_there: bool) -> &'a [u8]
-    ensures { λ r. ⌜ now r ≡ spec.lineAt (now (s .entry)) from «is_there» ⌝ }
+fn line_part<'a>(s: &'a [u8], from: usize, is_there: bool) -> &'a [u8]
+    ensures { λ r. ⌜ now r ≡ spec.linePart (now (s .entry)) from «is_there» ⌝ }
 {
     if is_there {
         match next_line(s, from) {
@@ -42,14 +42,14 @@ fn line_at<'a>(s: &'a [u8], from: usize, is_there: bool) -> &'a [u8]
 }
 
 // The next line, that of one place: a part of `a` where `a` has one, else of `b`.
-fn next<'a>(a: &'a [u8], b: &'a [u8], i: usize, j: usize, in_a: bool, in_b: bool) -> &'a [u8]
-    ensures { λ r. ⌜ now r ≡ spec.next (now (a .entry)) (now (b .entry)) i j «in_a» «in_b» ⌝ }
+fn next_part<'a>(a: &'a [u8], b: &'a [u8], i: usize, j: usize, in_a: bool, in_b: bool) -> &'a [u8]
+    ensures { λ r. ⌜ now r ≡ spec.nextPart (now (a .entry)) (now (b .entry)) i j «in_a» «in_b» ⌝ }
 {
-    let line = line_at(a, i, in_a);
+    let line = line_part(a, i, in_a);
     if 0 < line.len() {
         line
     } else {
-        line_at(b, j, in_b)
+        line_part(b, j, in_b)
     }
 }
 
@@ -62,10 +62,10 @@ pub fn clash(a: &[u8], b: &[u8], n: Network, m: Network) -> bool
     let mut j: usize = 0;
     let mut k: usize = 0;
     while k < 1088 {
-        let in_a = has_line(n, k);
-        let in_b = has_line(m, k);
-        let x = line_at(a, i, in_a);
-        let y = line_at(b, j, in_b);
+        let in_a = has_entry(n, k);
+        let in_b = has_entry(m, k);
+        let x = line_part(a, i, in_a);
+        let y = line_part(b, j, in_b);
         if differ(x, y) {
             return true;
         }
@@ -86,13 +86,13 @@ pub fn merge<'a>(a: &'a [u8], b: &'a [u8], n: Network, m: Network, out: &mut [u8
     let mut end: usize = 0;
     let mut k: usize = 0;
     while k < 1088 {
-        let in_a = has_line(n, k);
-        let in_b = has_line(m, k);
-        let line = next(a, b, i, j, in_a, in_b);
+        let in_a = has_entry(n, k);
+        let in_b = has_entry(m, k);
+        let line = next_part(a, b, i, j, in_a, in_b);
         let size = bytes::copy(line, &mut out[end..]);
         end += size;
-        let of_a = line_at(a, i, in_a);
-        let of_b = line_at(b, j, in_b);
+        let of_a = line_part(a, i, in_a);
+        let of_b = line_part(b, j, in_b);
         i += of_a.len();
         j += of_b.len();
         k += 1;

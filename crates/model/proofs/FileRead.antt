@@ -124,12 +124,12 @@ sorted-read t out w e =
     ∙ ap (λ (s : State). s .network) (text-read (networkIn t) (in-consistent t) out w)
 
 -- the network n that was read from the file t: it is the file's, if that is the text of one
-pub record Reads (t : List ℕ) (n : Network) : Type 0 where
+pub record FileGives (t : List ℕ) (n : Network) : Type 0 where
   pub consistent : Consistent n
   pub sorted : sameText t (networkText n) ≡ isNetworkText t
   pub network : isNetworkText t ≡ true → n ≡ networkIn t
 
-pub file-read : (t out : List ℕ) → 70976 ≤ length out → Reads t (answeredText fresh t out .state .network)
+pub file-read : (t out : List ℕ) → 70976 ≤ length out → FileGives t (answeredText fresh t out .state .network)
 unfolding isNetworkText
 file-read t out w = record { consistent = consistent; sorted = go (way (isNetworkText t)); network = sorted-read t out w }
   where

@@ -104,9 +104,9 @@ route-there n p h w = ap isThere (route-line n p (h .nodes) (omega (arith, h .ro
 abbrev pub firstOf : List ℕ → List ℕ → List ℕ
 firstOf x y = cond (isThere x) x y
 
-either-first : {A : Type 0} (line : A → List ℕ) (b : Bool) (x y : A) → isThere (line x) ≡ b → line (cond b x y) ≡ firstOf (line x) (line y)
-either-first line true x y e = rw e
-either-first line false x y e = rw e
+line-either : {A : Type 0} (line : A → List ℕ) (b : Bool) (x y : A) → isThere (line x) ≡ b → line (cond b x y) ≡ firstOf (line x) (line y)
+line-either line true x y e = rw e
+line-either line false x y e = rw e
 
 -- an entry's line is the first of two, where the entry is
 lines-together : {A : Type 0} (f : ℕ → A → List Form) (isGiven : A → Bool) → ((k : ℕ) (x : A) → isThere (joined (map formLine (f k x))) ≡ isGiven x)
@@ -116,7 +116,7 @@ unfolding linesFrom together
 lines-together f isGiven there k [] m = refl
 lines-together f isGiven there k (x ∷ l) [] = refl
 lines-together {A} f isGiven there k (x ∷ l) (y ∷ m) =
-    rw (either-first (λ (z : A). joined (map formLine (f k z))) (isGiven x) x y (there k x), lines-together f isGiven there (k + 1) l m)
+    rw (line-either (λ (z : A). joined (map formLine (f k z))) (isGiven x) x y (there k x), lines-together f isGiven there (k + 1) l m)
 
 pub union-places : (n m : Network) → Consistent n → Consistent m → placeLines (union n m) ≡ together firstOf (placeLines n) (placeLines m)
 union-places n m h g =

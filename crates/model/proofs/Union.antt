@@ -1,6 +1,6 @@
 -- The join of two networks' texts is the text of the network of both, or a clash. Assumes nothing.
 use mathlib.Core.Path.{_≡_, refl, sym, ap, _∙_}
-use mathlib.Core.Bool.{true, false, cond, _&&_, and-comm}
+use mathlib.Core.Bool.{Bool, true, false, cond, _&&_, and-comm}
 use mathlib.Core.List.{List}
 use mathlib.Core.Logic.{_↔_}
 use mathlib.Core.Option.{none, some}
@@ -10,8 +10,8 @@ use borrow.Author.Tests.{le-ltb, leb-true, leb-false}
 use lib.Dec.{leb, ltb}
 use lib.ListN.{length, take}
 use lib.Seq.{take-all, length-take-le}
-use Rattle.calculus.proofs.Tests.{Way, is, isnt, way, either, never, not-so}
-use Rattle.calculus.specs.declared.answer.Refusal.the-variants.{Unsorted}
+use Rattle.calculus.proofs.Tests.{Way, is, isnt, way, either, never, not-so, clash as apart}
+use Rattle.calculus.specs.declared.answer.Refusal.the-variants.{Clash, Unsorted}
 use Rattle.calculus.specs.declared.network.Network.{Network}
 use Rattle.forms.specs.Bytes.{decimal, digitsOf}
 use Rattle.forms.specs.Text.{listText}
@@ -19,7 +19,7 @@ use Rattle.forms.specs.Answer.{answerText}
 use Rattle.model.specs.NetworkText.{networkText}
 use Rattle.model.specs.State.{fresh}
 use Rattle.model.specs.GivenBack.{Consistent}
-use Rattle.model.specs.Join.{File, networkIn, isNetworkText, isSorted, networkOf, clash, union, JoinReply, refusedJoin, shortJoin, networkReply, joinNetworks, join}
+use Rattle.model.specs.Join.{File, networkIn, isNetworkText, isSorted, fileNetwork, clash, union, JoinReply, refusedJoin, shortJoin, networkReply, joinNetworks, join}
 use Rattle.model.specs.Union.{IsTextOf, Agree, cutTo, Union}
 use Rattle.model.proofs.Consistent.{consistent-fresh}
 use Rattle.model.proofs.GivenBack.{given-back}
@@ -54,7 +54,7 @@ module _ (n m : Network) (h : Consistent n) (k : Consistent m) where
 -- ---- a file
 
 -- whatever a file has, its network is one that calls leave
-file-consistent : (f : File) → Consistent (networkOf f)
+file-consistent : (f : File) → Consistent (fileNetwork f)
 file-consistent none = consistent-fresh
 file-consistent (some t) = in-consistent t
 
@@ -77,13 +77,40 @@ text-join : (n m : Network) (size : ℕ) → Consistent n → Consistent m → 6
 unfolding join
 text-join n m size h k e = rw (le-ltb size 65536 e, text-sorted n h, text-sorted m k, text-in n h, text-in m k)
 
-agree-join : (n m : Network) (size : ℕ) → Consistent n → Consistent m → 65536 ≤ size → Agree n m → union n m ≡ n
-    → join (some (networkText n)) (some (networkText m)) size ≡ networkReply n
-agree-join n m size h k e g u = text-join n m size h k e ∙ agree-joined n m h k g ∙ ap networkReply u
+agree-join : (n m : Network) (size : ℕ) → Consistent n → Consistent m → 65536 ≤ size → Agree n m
+    → join (some (networkText n)) (some (networkText m)) size ≡ networkReply (union n m)
+agree-join n m size h k e g = text-join n m size h k e ∙ agree-joined n m h k g
+
+clash-join : (n m : Network) (size : ℕ) → Consistent n → Consistent m → 65536 ≤ size → (Agree n m → ⊥)
+    → join (some (networkText n)) (some (networkText m)) size ≡ refusedJoin Clash
+clash-join n m size h k e g = text-join n m size h k e ∙ either (λ r. r ≡ refusedJoin Clash) (clash n m) (λ c. refl) (λ c. absurd (g (clash-exactly n m h k .0 c)))
+
+-- which refusal a join of sorted files can have
+joined-sorted : (n m : Network) → joinNetworks n m .refusal ≡ some Unsorted → ⊥
+joined-sorted n m = go (clash n m)
+  where
+    go : (b : Bool) → cond b (refusedJoin Clash) (networkReply (union n m)) .refusal ≡ some Unsorted → ⊥
+    go true e = apart (cc e)
+    go false e = apart (cc e)
+
+unsorted-exactly : (f g : File) (size : ℕ) → 65536 ≤ size → (join f g size .refusal ≡ some Unsorted) ↔ ((isSorted f && isSorted g) ≡ false)
+unfolding join
+unsorted-exactly f g size h = rw (le-ltb size 65536 h) (go (way (isSorted f && isSorted g)))
+  where
+    n : Network
+    n = fileNetwork f
+
+    m : Network
+    m = fileNetwork g
+
+    go : Way (isSorted f && isSorted g)
+        → (cond (isSorted f && isSorted g) (joinNetworks n m) (refusedJoin Unsorted) .refusal ≡ some Unsorted) ↔ ((isSorted f && isSorted g) ≡ false)
+    go (is e) = rw e (λ r. absurd (joined-sorted n m r), λ w. never (sym w))
+    go (isnt e) = rw e (λ r. refl, λ w. refl)
 
 join-comm : (f g : File) (size : ℕ) → join f g size ≡ join g f size
 unfolding join
-join-comm f g size = rw (and-comm (isSorted f) (isSorted g), joined-comm (networkOf f) (networkOf g) (file-consistent f) (file-consistent g))
+join-comm f g size = rw (and-comm (isSorted f) (isSorted g), joined-comm (fileNetwork f) (fileNetwork g) (file-consistent f) (file-consistent g))
 
 -- a refusal's line is short, and a text of a network fits
 abbrev Fits : JoinReply → Type 0
@@ -92,8 +119,8 @@ Fits r = length (r .text) ≤ 29376
 join-fits : (f g : File) (size : ℕ) → length (join f g size .text) ≤ 29376
 unfolding join answerText listText decimal digitsOf
 join-fits f g size =
-    let n = networkOf f in
-    let m = networkOf g in
+    let n = fileNetwork f in
+    let m = fileNetwork g in
     either Fits (ltb size 65536) (λ e. omega arith)
     (λ e. either Fits (isSorted f && isSorted g)
     (λ s. either Fits (clash n m) (λ c. omega arith) (λ c. given-back .fits (union n m) (union-consistent n m (file-consistent f) (file-consistent g))))
@@ -125,16 +152,18 @@ pub unions : Union
 unions =
     record {
       sorted = sorted-exactly;
-      joins = text-join;
-      clashes = clash-exactly;
+      unsorted = unsorted-exactly;
+      clashes = clash-join;
+      joins = agree-join;
       nodes = λ n m a h k. union-node n m h k a;
       routes = λ n m a b h k. union-route n m h k a b;
       consistent = union-consistent;
       fits = join-fits;
       symmetric = join-comm;
-      itself = λ n size h e. agree-join n n size h h e (agree-itself n) (union-itself n h);
+      itself = λ n size h e. agree-join n n size h h e (agree-itself n) ∙ ap networkReply (union-itself n h);
       empty = λ n size h e.
           ap (λ (t : List ℕ). join (some (networkText n)) (some t) size) (sym empty-text)
-          ∙ agree-join n (fresh .network) size h consistent-fresh e (agree-empty n) (union-empty n h);
+          ∙ agree-join n (fresh .network) size h consistent-fresh e (agree-empty n)
+          ∙ ap networkReply (union-empty n h);
       cut = cut-join;
     }

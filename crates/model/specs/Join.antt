@@ -35,17 +35,19 @@ sameText (b ∷ l) (c ∷ m) = eqb b c && sameText l m
 unfoldable pub networkIn : List ℕ → Network
 networkIn t = afterLines fresh (lines t) .network
 
--- "as #101 writes it": it is the text of the network that it gives
+-- "as #101 writes it": it is the text of the network that it gives; each of its lines is then answered (ok), by GivenBack's `accepts`
 unfoldable pub isNetworkText : List ℕ → Bool
 isNetworkText t = sameText t (networkText (networkIn t))
 
+-- the file is as #101 writes it; one that can't be read is not
 abbrev pub isSorted : File → Bool
 isSorted none = false
 isSorted (some t) = isNetworkText t
 
-abbrev pub networkOf : File → Network
-networkOf none = fresh .network
-networkOf (some t) = networkIn t
+-- its network; of one that can't be read the empty one, which no join looks at
+abbrev pub fileNetwork : File → Network
+fileNetwork none = fresh .network
+fileNetwork (some t) = networkIn t
 
 -- ---- the two networks, place by place
 
@@ -61,7 +63,7 @@ somewhere f [] m = false
 somewhere f (x ∷ l) [] = false
 somewhere f (x ∷ l) (y ∷ m) = f x y || somewhere f l m
 
--- the line of each entry of a table, or the empty text where it has none
+-- the line of each entry of a table, the first being number k; the empty text where it has none
 unfoldable pub linesFrom : {A : Type 0} → (ℕ → A → List Form) → ℕ → List A → List (List ℕ)
 linesFrom f k [] = []
 linesFrom f k (x ∷ l) = joined (map formLine (f k x)) ∷ linesFrom f (k + 1) l
@@ -70,6 +72,7 @@ linesFrom f k (x ∷ l) = joined (map formLine (f k x)) ∷ linesFrom f (k + 1) 
 abbrev pub placeLines : Network → List (List ℕ)
 placeLines n = linesFrom nodeForm 1 (n .nodes) ++ linesFrom routeForm 0 (n .routes)
 
+-- there is a line: the text is not empty
 abbrev pub isThere : List ℕ → Bool
 isThere l = ltb 0 (length l)
 
@@ -81,10 +84,11 @@ differ x y = (isThere x && isThere y) && not (sameText x y)
 abbrev pub clash : Network → Network → Bool
 clash n m = somewhere differ (placeLines n) (placeLines m)
 
--- a node, or a route's next node, of the first network, else of the second
+-- a node of the first network, else of the second
 abbrev pub eitherNode : Node → Node → Node
 eitherNode x y = cond (x .given) x y
 
+-- so of a route, by its next node
 abbrev pub eitherRoute : ℕ → ℕ → ℕ
 eitherRoute x y = cond (ltb 0 x) x y
 
@@ -119,5 +123,5 @@ joinNetworks n m = cond (clash n m) (refusedJoin Clash) (networkReply (union n m
 unfoldable pub join : File → File → ℕ → JoinReply
 join f g size =
     cond (ltb size 65536) shortJoin
-    (cond (isSorted f && isSorted g) (joinNetworks (networkOf f) (networkOf g))
+    (cond (isSorted f && isSorted g) (joinNetworks (fileNetwork f) (fileNetwork g))
     (refusedJoin Unsorted))

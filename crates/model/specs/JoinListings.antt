@@ -5,24 +5,30 @@ use mathlib.Core.Path.{_≡_}
 use mathlib.Core.List.{List, [], _∷_, _++_, map}
 use mathlib.Core.Option.{none, some}
 use lib.ListN.{replicate}
+use Rattle.calculus.specs.declared.answer.Refusal.{Refusal}
+use Rattle.calculus.specs.declared.answer.Refusal.the-variants.{Short, Clash, Unsorted}
 use Rattle.forms.specs.Bytes.{bytes}
-use Rattle.model.specs.Join.{File, shortJoin, join}
+use Rattle.model.specs.Join.{JoinReply, join}
 
--- what the join of two files writes, with room for any
-abbrev pub joinWrites : File → File → List ℕ
-joinWrites f g = join f g 65536 .text
-
--- two files' bytes, and what their join writes
-pub record Joining : Type 0 where
+-- two files' bytes
+pub record Pair : Type 0 where
   pub first : List ℕ
   pub second : List ℕ
-  pub written : List ℕ
 
-abbrev pub writesOf : Joining → List ℕ
-writesOf j = joinWrites (some (j .first)) (some (j .second))
+infix 70 _with_
+abbrev pub _with_ : List ℕ → List ℕ → Pair
+a with b = record { first = a; second = b }
 
-abbrev pub joining : List ℕ → List ℕ → List ℕ → Joining
-joining a b w = record { first = a; second = b; written = w }
+-- their join, with room for any
+abbrev pub joinOf : Pair → JoinReply
+joinOf p = join (some (p .first)) (some (p .second)) 65536
+
+-- a join that writes this text, and one that is refused so
+abbrev pub joinedTo : List ℕ → JoinReply
+joinedTo t = record { text = t; refusal = none }
+
+abbrev pub refusedBy : String → Refusal → JoinReply
+refusedBy line r = record { text = bytes line; refusal = some r }
 
 -- ---- joined
 
@@ -47,26 +53,29 @@ officeAndHouse =
 abbrev pub threeHosts : String → List ℕ
 threeHosts routes = bytes "(node 1 host (has) (needs))\n(node 2 host (has) (needs))\n(node 3 host (has) (needs))\n" ++ bytes routes
 
--- either way round; with what it has; with itself; with the empty one; a default beside a route of the same node
-abbrev pub joinings : List Joining
-joinings =
-    joining office house officeAndHouse ∷ joining house office officeAndHouse ∷ joining officeAndHouse house officeAndHouse
-    ∷ joining house house house ∷ joining house [] house ∷ joining [] [] []
-    ∷ joining (threeHosts "(route 1 3 2)\n") (threeHosts "(route 1 0 2)\n") (threeHosts "(route 1 0 2)\n(route 1 3 2)\n")
+-- either way round; the join with one of its files; a file with itself; with the empty one; two empty ones; a default beside a route of the
+-- same node
+abbrev pub joinable : List Pair
+joinable =
+    office with house ∷ house with office ∷ officeAndHouse with house ∷ house with house ∷ house with [] ∷ [] with []
+    ∷ threeHosts "(route 1 3 2)\n" with threeHosts "(route 1 0 2)\n"
     ∷ []
+
+abbrev pub joinsOfThem : List (List ℕ)
+joinsOfThem =
+    officeAndHouse ∷ officeAndHouse ∷ officeAndHouse ∷ house ∷ house ∷ [] ∷ threeHosts "(route 1 0 2)\n(route 1 3 2)\n" ∷ []
 
 -- ---- refused
 
 -- two that clash: a kind; what a node has; what it needs; a next hop; that of a default
-abbrev pub clashing : List Joining
+abbrev pub clashing : List Pair
 clashing =
-    map (λ j. j (bytes "(no 14)\n"))
-    (joining (bytes "(node 1 host (has) (needs))\n") (bytes "(node 1 gate (has) (needs))\n")
-    ∷ joining (bytes "(node 1 host (has 7) (needs))\n") (bytes "(node 1 host (has 7 8) (needs))\n")
-    ∷ joining (bytes "(node 1 host (has) (needs 7))\n") (bytes "(node 1 host (has) (needs 8))\n")
-    ∷ joining (threeHosts "(route 1 3 2)\n") (threeHosts "(route 1 3 3)\n")
-    ∷ joining (threeHosts "(route 1 0 2)\n") (threeHosts "(route 1 0 3)\n")
-    ∷ [])
+    bytes "(node 1 host (has) (needs))\n" with bytes "(node 1 gate (has) (needs))\n"
+    ∷ bytes "(node 1 host (has 7) (needs))\n" with bytes "(node 1 host (has 7 8) (needs))\n"
+    ∷ bytes "(node 1 host (has) (needs 7))\n" with bytes "(node 1 host (has) (needs 8))\n"
+    ∷ threeHosts "(route 1 3 2)\n" with threeHosts "(route 1 3 3)\n"
+    ∷ threeHosts "(route 1 0 2)\n" with threeHosts "(route 1 0 3)\n"
+    ∷ []
 
 -- not as #101 writes it: nodes not rising; a route before a node; a line twice; a blank one; no newline at the end; a carriage return;
 -- a route for a node that only the other file has; a call that gives no network. The first two and the fourth would clash, too
@@ -83,10 +92,10 @@ unsortedFiles =
     ∷ []
 
 pub record JoinListings : Type 0 where
-  pub joined : map writesOf joinings ≡ map (λ j. j .written) joinings
-  pub clash : map writesOf clashing ≡ map (λ j. j .written) clashing
+  pub joined : map joinOf joinable ≡ map joinedTo joinsOfThem
+  pub clash : map joinOf clashing ≡ replicate 5 (refusedBy "(no 14)\n" Clash)
   -- with the house's file
-  pub unsorted : map (λ t. joinWrites (some t) (some house)) unsortedFiles ≡ replicate 8 (bytes "(no 15)\n")
-  pub unread : joinWrites none (some house) ≡ bytes "(no 15)\n"
-  -- 0 comes first
-  pub short : join none (some house) 65535 ≡ shortJoin
+  pub unsorted : map (λ t. joinOf (t with house)) unsortedFiles ≡ replicate 8 (refusedBy "(no 15)\n" Unsorted)
+  pub unread : join none (some house) 65536 ≡ refusedBy "(no 15)\n" Unsorted
+  -- 0 comes first, and nothing is written
+  pub short : join none (some house) 65535 ≡ record { text = []; refusal = some Short }

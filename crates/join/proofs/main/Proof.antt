@@ -4,7 +4,7 @@ use Prim.Native.Nat.{_≤_}
 use native.Mathlib.Omega.{arith}
 use borrow.Author.Needs.{needs}
 use lib.Seq.{length-take-le}
-use Rattle.joins.proofs.Joining.{join-few}
+use Rattle.joins.proofs.JoinCases.{join-few}
 use Rattle.join.proofs.main.Statement.{statement}
 use Rattle.join.proofs.main.Tie as tie
 

@@ -1,7 +1,7 @@
 -- `refuse` meets its contract: a refusal's line has room. Assumes nothing.
 use mathlib.Core.Path.{refl}
 use borrow.Author.Needs.{needs}
-use Rattle.joins.proofs.Joining.{line-front}
+use Rattle.joins.proofs.JoinCases.{line-front}
 use Rattle.joins.proofs.refuse.Statement.{statement}
 use Rattle.joins.proofs.refuse.Tie as tie
 

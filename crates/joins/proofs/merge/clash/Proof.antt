@@ -9,14 +9,14 @@ use Rattle.calculus.proofs.Tests.{join}
 use Rattle.calculus.specs.declared.network.Network.{Network}
 use Rattle.model.specs.Join as model
 use Rattle.model.specs.Join.{somewhere}
-use Rattle.joins.proofs.Readings.{Reading, linesLeft, Read, text-unread, lines-none, line-read}
+use Rattle.joins.proofs.LinesRead.{Unread, linesLeft, LineRead, text-unread, lines-none, line-read}
 use Rattle.joins.proofs.merge.clash.Statement.{statement}
 use Rattle.joins.proofs.merge.clash.Tie as tie
 
 -- k lines of each are read, and no two of them clash
 record Searching (n m : Network) (a b : List ℕ) (i j k : ℕ) : Type 0 where
-  pub first : Reading a i (linesLeft n k)
-  pub second : Reading b j (linesLeft m k)
+  pub first : Unread a i (linesLeft n k)
+  pub second : Unread b j (linesLeft m k)
   pub same : model.clash n m ≡ somewhere model.differ (linesLeft n k) (linesLeft m k)
 
 module _ {n m : Network} {a b : List ℕ} {i j k : ℕ} (s : Searching n m a b i j k) where
@@ -24,7 +24,7 @@ module _ {n m : Network} {a b : List ℕ} {i j k : ℕ} (s : Searching n m a b i
   unfolding somewhere
   searching-all e = sym (s .same ∙ rw e)
 
-  module _ {x y : List ℕ} (p : Read n a k i x) (q : Read m b k j y) where
+  module _ {x y : List ℕ} (p : LineRead n a k i x) (q : LineRead m b k j y) where
     next-search : model.clash n m ≡ (model.differ x y || somewhere model.differ (linesLeft n (k + 1)) (linesLeft m (k + 1)))
     unfolding somewhere
     next-search = s .same ∙ rw (p .line, q .line)
@@ -47,18 +47,18 @@ loop-holds c =
     record { first = text-unread (g .0); second = text-unread (g .1); same = refl }
 
 -- the lines that a turn compares
-module _ (c : tie.After-line-at2 Inv-loop μ-loop) where
+module _ (c : tie.After-line-part2 Inv-loop μ-loop) where
   abbrev at : tie.At-loop Inv-loop μ-loop
   at = c .before .before .before .before .before
 
   abbrev start : tie.Start Inv-loop μ-loop
   start = at .before .before .before
 
-  first : Read (start .args .n) (start .args .a .now) (at .loop .k) (at .loop .i) (c .before .line-at .result .now)
-  first = line-read (start .pre .0) (at .loop .inv .first) (search needs) (c .before .before .before .has-line .ensures) (c .before .line-at .ensures)
+  first : LineRead (start .args .n) (start .args .a .now) (at .loop .k) (at .loop .i) (c .before .line-part .result .now)
+  first = line-read (start .pre .0) (at .loop .inv .first) (search needs) (c .before .before .before .has-entry .ensures) (c .before .line-part .ensures)
 
-  second : Read (start .args .m) (start .args .b .now) (at .loop .k) (at .loop .j) (c .line-at2 .result .now)
-  second = line-read (start .pre .1) (at .loop .inv .second) (search needs) (c .before .before .has-line2 .ensures) (c .line-at2 .ensures)
+  second : LineRead (start .args .m) (start .args .b .now) (at .loop .k) (at .loop .j) (c .line-part2 .result .now)
+  second = line-read (start .pre .1) (at .loop .inv .second) (search needs) (c .before .before .has-entry2 .ensures) (c .line-part2 .ensures)
 
 returns : tie.Need-returns Inv-loop μ-loop
 returns c =

@@ -5,8 +5,8 @@ use native.Mathlib.Omega.{arith}
 use borrow.Author.Needs.{needs}
 use lib.ListN.{length, length-drop}
 use Rattle.forms.proofs.Parts as parts
-use Rattle.joins.specs.Merge.{lineAt}
-use Rattle.joins.proofs.Readings.{reading-none, Read, text-unread, lines-none, line-read}
+use Rattle.joins.specs.Merge.{linePart}
+use Rattle.joins.proofs.LinesRead.{unread-all, LineRead, text-unread, lines-none, line-read}
 use Rattle.joins.proofs.Merges.{Merging, whole-lines, whole-width, merging-size, merging-all, merging-end, merging-more}
 use Rattle.joins.proofs.merge.merge.Statement.{statement}
 use Rattle.joins.proofs.merge.merge.Tie as tie
@@ -23,30 +23,30 @@ loop-holds c =
     record {
       first = text-unread (g .0 .0);
       second = text-unread (g .0 .1);
-      whole = reading-none (whole-lines (g .0));
+      whole = unread-all (whole-lines (g .0));
       width = omega (arith, whole-width (g .0));
       bytes = refl;
     }
 
 -- the lines of a turn
-module _ (c : tie.After-next Inv-loop μ-loop) where
+module _ (c : tie.After-next-part Inv-loop μ-loop) where
   abbrev at : tie.At-loop Inv-loop μ-loop
   at = c .before .before .before .before
 
   abbrev start : tie.Start Inv-loop μ-loop
   start = at .before .before .before .before
 
-  first : Read (start .args .n) (start .args .a .now) (at .loop .k) (at .loop .i) (lineAt (start .args .a .now) (at .loop .i) (c .before .before .has-line .result))
-  first = line-read (start .pre .0 .0) (at .loop .inv .first) (search needs) (c .before .before .has-line .ensures) refl
+  first : LineRead (start .args .n) (start .args .a .now) (at .loop .k) (at .loop .i) (linePart (start .args .a .now) (at .loop .i) (c .before .before .has-entry .result))
+  first = line-read (start .pre .0 .0) (at .loop .inv .first) (search needs) (c .before .before .has-entry .ensures) refl
 
-  second : Read (start .args .m) (start .args .b .now) (at .loop .k) (at .loop .j) (lineAt (start .args .b .now) (at .loop .j) (c .before .has-line2 .result))
-  second = line-read (start .pre .0 .1) (at .loop .inv .second) (search needs) (c .before .has-line2 .ensures) refl
+  second : LineRead (start .args .m) (start .args .b .now) (at .loop .k) (at .loop .j) (linePart (start .args .b .now) (at .loop .j) (c .before .has-entry2 .result))
+  second = line-read (start .pre .0 .1) (at .loop .inv .second) (search needs) (c .before .has-entry2 .ensures) refl
 
   -- the next line has room
-  room : let end = at .loop .end + length (c .next .result .now) in (end ≤ length (at .loop .out)) × (end ≤ 65536)
+  room : let end = at .loop .end + length (c .next-part .result .now) in (end ≤ length (at .loop .out)) × (end ≤ 65536)
   room =
       let inv = at .loop .inv in
-      let h = merging-end inv first second (c .next .ensures) in
+      let h = merging-end inv first second (c .next-part .ensures) in
       (omega (arith, h, merging-size inv, inv .width), omega (arith, h, whole-width (start .pre .0)))
 
 copy-requires : tie.Need-copy-requires Inv-loop μ-loop
@@ -63,8 +63,8 @@ loop-again : tie.Need-loop-again Inv-loop μ-loop
 loop-again c =
     let c₄ = c .before .before .before .before in
     let c₆ = c₄ .before .before in
-    merging-more (at c₆ .loop .inv) (first c₆) (second c₆) (c₆ .next .ensures) (c₄ .copy .ensures .0) (c₄ .copy .ensures .1)
-    (c .before .line-at .ensures) (c .line-at2 .ensures)
+    merging-more (at c₆ .loop .inv) (first c₆) (second c₆) (c₆ .next-part .ensures) (c₄ .copy .ensures .0) (c₄ .copy .ensures .1)
+    (c .before .line-part .ensures) (c .line-part2 .ensures)
 
 same-length : tie.Need-same-length Inv-loop μ-loop
 same-length c = merging-size (c .before .loop .inv)

@@ -1,21 +1,21 @@
--- `read_file` meets its contract: a fresh state is given the file and asked for its network. Assumes nothing.
+-- `find_network` meets its contract: a fresh state is given the file and asked for its network. Assumes nothing.
 use mathlib.Core.Path.{sym, ap, _∙_}
 use native.Mathlib.Omega.{arith}
 use borrow.Author.Needs.{needs}
 use Prim.Native.Nat.{_≤_}
 use Rattle.model.specs.Join.{sameText}
 use Rattle.model.proofs.GivenBack.{given-back}
-use Rattle.model.proofs.FileRead.{Reads}
-use Rattle.joins.proofs.Joining.{calls-read, net-text, asked-length, asked-text, file-found, file-missing}
-use Rattle.joins.proofs.read_file.Statement.{statement}
-use Rattle.joins.proofs.read_file.Tie as tie
+use Rattle.model.proofs.FileRead.{FileGives}
+use Rattle.joins.proofs.JoinCases.{calls-read, net-text, asked-length, asked-text, file-found, file-missing}
+use Rattle.joins.proofs.find_network.Statement.{statement}
+use Rattle.joins.proofs.find_network.Tie as tie
 
 -- the network that was read, and the reply to `(net)`
 module _ (c : tie.After-call) where
   abbrev given : tie.After-calls
   given = c .before .before .before .before .before .before
 
-  read : Reads (given .before .before .before .before .before .args .text .now) (given .calls .result .state .network)
+  read : FileGives (given .before .before .before .before .before .args .text .now) (given .calls .result .state .network)
   read = calls-read _ _ (given .before .before .fresh .ensures) (search needs) (given .calls .ensures)
 
   width : c .call .result .written ≤ 29376
@@ -34,8 +34,8 @@ returns c =
 returns-2 : tie.Need-returns-2
 returns-2 c = file-missing (c .before .before .before .before .args .text .now) (c .before .before .if1 .left)
 
-pub read-file-spec : {M : Type 1} → statement M
-read-file-spec =
+pub find-network-spec : {M : Type 1} → statement M
+find-network-spec =
     tie.close
     (tie.spec
     (λ c κs. search needs)

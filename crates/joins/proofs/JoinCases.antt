@@ -20,7 +20,7 @@ use Rattle.model.specs.State.{fresh}
 use Rattle.model.specs.Batch.{answeredText}
 use Rattle.model.specs.Join.{File, sameText, refusedJoin, shortJoin, joinNetworks, join}
 use Rattle.model.proofs.GivenBack.{given-back}
-use Rattle.model.proofs.FileRead.{Reads, file-read}
+use Rattle.model.proofs.FileRead.{FileGives, file-read}
 use Rattle.model.proofs.Union.{sorted-text, unions}
 use Rattle.simulator.specs.Batch.{Answers}
 use Rattle.simulator.specs.declared.calls.Answered.{Answered}
@@ -39,18 +39,18 @@ use Rattle.joins.specs.declared.Contents.{Contents}
 pub line-front : {out line left : List ℕ} {next : ℕ} → Writes 32 out 0 line left next → 65536 ≤ length out → Front out line left next
 line-front {out} {line} {left} {next} w h =
     let room = le-leb 32 (length out) (omega arith) in
-    let place : next ≡ length line = w .place ∙ rw (room, zero-add (length line)) in
+    let size : next ≡ length line = w .place ∙ rw (room, zero-add (length line)) in
     let few : length line ≤ length out = omega (arith, w .few) in
-    record { place = place; bytes = w .left ∙ rw room (rw zero-add at (sets-eq line out 0 (omega arith))) }
+    record { size = size; bytes = w .left ∙ rw room (rw zero-add at (sets-eq line out 0 (omega arith))) }
 
 -- ---- a file
 
 -- what `calls` leaves of a fresh state by the file
 pub calls-read : (t out : List ℕ) {s : State} {left : List ℕ} {r : Answered} → s ≡ fresh → 70976 ≤ length out
-    → Answers left r (answeredText s t out) → Reads t (r .state .network)
+    → Answers left r (answeredText s t out) → FileGives t (r .state .network)
 calls-read t out {s} {left} {r} e h w =
     let same : r .state ≡ answeredText fresh t out .state = ap (λ (x : Answered). x .state) (w .answered) ∙ ap (λ (x : State). answeredText x t out .state) e in
-    subst (λ (x : State). Reads t (x .network)) (sym same) (file-read t out h)
+    subst (λ (x : State). FileGives t (x .network)) (sym same) (file-read t out h)
 
 -- the state's network, asked for
 module _ (s : State) (line : List ℕ) {out left : List ℕ} {r : Reply} (e : line ≡ text net) (h : 65536 ≤ length out)
@@ -71,7 +71,7 @@ pub net-text : text net ≡ 40 ∷ 110 ∷ 101 ∷ 116 ∷ 41 ∷ []
 unfolding text listText
 net-text = refl
 
-pub file-found : {t : List ℕ} {c : Contents} {read : Bool} → read ≡ true → Reads t (c .network) → c .sorted ≡ sameText t (networkText (c .network))
+pub file-found : {t : List ℕ} {c : Contents} {read : Bool} → read ≡ true → FileGives t (c .network) → c .sorted ≡ sameText t (networkText (c .network))
     → Finds (fileOf read t) c
 file-found {t} {c} {read} e r w =
     subst (λ (b : Bool). Finds (fileOf b t) c) (sym e) (record { sorted = w ∙ r .sorted; network = r .network })
@@ -93,7 +93,7 @@ file-text false t w e = never (sym (w .sorted) ∙ e)
 module _ (f g : File) (size : ℕ) where
   -- what is written fits
   pub join-few : {out left : List ℕ} {r : JoinReply} → JoinReplies out (join f g size) left r → r .written ≤ 29376
-  join-few w = omega (arith, w .output .place, unions .fits f g size)
+  join-few w = omega (arith, w .output .size, unions .fits f g size)
 
   pub join-short : size < 65536 → join f g size ≡ shortJoin
   unfolding join

@@ -1,4 +1,4 @@
--- `merge::line_at` meets its contract: the line stands inside the text. Assumes nothing.
+-- `merge::line_part` meets its contract: the line stands inside the text. Assumes nothing.
 use borrow.Author.Needs.{needs}
 use mathlib.Core.Path.{_≡_, sym, ap}
 use mathlib.Core.Bool.{Bool, true}
@@ -11,13 +11,13 @@ use Rattle.forms.specs.declared.line.Line as line
 use Rattle.forms.proofs.Splits.{Inside, line-inside}
 use Rattle.forms.specs.Line.{nextLine}
 use Rattle.lines.specs.Behind.{past}
-use Rattle.joins.specs.Merge.{lineAt}
-use Rattle.joins.proofs.merge.line_at.Statement.{statement}
-use Rattle.joins.proofs.merge.line_at.Tie as tie
+use Rattle.joins.specs.Merge.{linePart}
+use Rattle.joins.proofs.merge.line_part.Statement.{statement}
+use Rattle.joins.proofs.merge.line_part.Tie as tie
 
 -- the part to behind a line, which is there
 part-is : (l : List ℕ) (from : ℕ) (isThere : Bool) {x : line.Line} → isThere ≡ true → nextLine l from ≡ x
-    → take (past from x - from) (drop from l) ≡ lineAt l from isThere
+    → take (past from x - from) (drop from l) ≡ linePart l from isThere
 part-is l from isThere h e = rw h (ap (λ (y : line.Line). take (past from y - from) (drop from l)) (sym e))
 
 inside : (c : tie.After-next)
@@ -40,8 +40,8 @@ returns-2 c =
 returns-3 : tie.Need-returns-3
 returns-3 c = rw (c .before .if1 .left)
 
-pub line-at-spec : {M : Type 1} → statement M
-line-at-spec =
+pub line-part-spec : {M : Type 1} → statement M
+line-part-spec =
     tie.close
     (tie.spec
     (λ c κs. search needs)

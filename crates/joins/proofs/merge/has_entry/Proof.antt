@@ -1,12 +1,12 @@
--- `merge::has_line` meets its contract. Assumes nothing.
+-- `merge::has_entry` meets its contract. Assumes nothing.
 use borrow.Author.Needs.{needs}
 use borrow.Author.Tests.{lt-ltb, le-ltb}
 use mathlib.Core.Path.{ap, _∙_}
 use Rattle.calculus.specs.declared.network.Node as declared
 use Rattle.model.specs.Network.{noNode}
 use Rattle.lookups.proofs.Within.{getD-within, below-mapped}
-use Rattle.joins.proofs.merge.has_line.Statement.{statement}
-use Rattle.joins.proofs.merge.has_line.Tie as tie
+use Rattle.joins.proofs.merge.has_entry.Statement.{statement}
+use Rattle.joins.proofs.merge.has_entry.Tie as tie
 
 returns : tie.Need-returns
 returns c =
@@ -17,5 +17,5 @@ returns c =
 returns-2 : tie.Need-returns-2
 returns-2 c = rw (le-ltb _ _ (c .before .if1 .left))
 
-pub has-line-spec : {M : Type 1} → statement M
-has-line-spec = tie.close (tie.spec (λ c. search needs) (λ c. search needs) returns (λ c. search needs) returns-2)
+pub has-entry-spec : {M : Type 1} → statement M
+has-entry-spec = tie.close (tie.spec (λ c. search needs) (λ c. search needs) returns (λ c. search needs) returns-2)
