@@ -31,21 +31,14 @@ pub enum Side {
     Initiator,
 }
 
-// The tunnel that a packet goes or came through (document 01's q in `in`): none, or the one with that peer.
-pub enum Via {
-    Untunnelled,
-    Peer(u8),
-}
-
 // What a session has pending, each as document 01 writes it: wire(a, packet, h), out(a, packet), up(a, packet),
-// in(a, packet, q), est(a, b, e), auth(a, q, e, side), grant(a, q, e, side), ack(a, e), dwait(a), ewait(a, e).
-// `Free` is a place with no item.
+// est(a, b, e), auth(a, q, e, side), grant(a, q, e, side), ack(a, e), dwait(a), ewait(a, e). Its in(a, packet, q) is
+// part of up since request #107. `Free` is a place with no item.
 pub enum Item {
     Free,
     Wire(u8, Packet, u8),
     Out(u8, Packet),
     Up(u8, Packet),
-    In(u8, Packet, Via),
     Est(u8, u8, u8),
     Auth(u8, u8, u8, Side),
     Grant(u8, u8, u8, Side),

@@ -20,14 +20,19 @@ pub struct Session {
     pub last: ItemNumber,
 }
 
+// The other ends of the tunnel that a row puts packets through, or that a packet came out of: one node, or 0 for none.
+pub struct Peers {
+    pub first: u8,
+}
+
 // A row (a policy entry): packets from `source` to `destination`, its filter, go through the tunnel between `node` and
-// `peer`, out of the node or, where `out` is false, into it. Its session is the one whose table holds it; `establishment`
-// is document 01's e.
+// its peer, out of the node or, where `out` is false, into it. Its session is the one whose table holds it;
+// `establishment` is document 01's e.
 pub struct Row {
     pub node: u8,
     pub out: bool,
     pub source: u8,
     pub destination: u8,
-    pub peer: u8,
+    pub peers: Peers,
     pub establishment: u8,
 }

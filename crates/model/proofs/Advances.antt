@@ -12,24 +12,24 @@ use Rattle.calculus.specs.declared.network.Network.{Network}
 use Rattle.calculus.specs.declared.network.NextHop.{NextHop}
 use Rattle.calculus.specs.declared.network.NextHop.the-variants.{Exact, Default, Missing}
 use Rattle.calculus.specs.declared.packet.Payload.the-variants.{Req, Rep, Disc, Done}
+use Rattle.calculus.specs.declared.packet.Header.{Header}
 use Rattle.calculus.specs.declared.packet.Header.the-variants.{Tunnel}
 use Rattle.calculus.specs.declared.packet.Packet.{Packet}
-use Rattle.calculus.specs.declared.packet.Via.{Via}
-use Rattle.calculus.specs.declared.packet.Via.the-variants.{Untunnelled, Peer}
 use Rattle.calculus.specs.declared.packet.Item.{Item}
 use Rattle.calculus.specs.declared.packet.Item.the-variants.{Wire, Out, Est}
 use Rattle.calculus.specs.declared.state.Part.{Part}
 use Rattle.model.specs.Lists.{All}
 use Rattle.model.specs.Network.{isGateway, nextHop, hasAllNeeded}
 use Rattle.model.specs.Packet.{hopLimit, bare, under}
-use Rattle.model.specs.Row.{held, newest, admits}
-use Rattle.model.specs.Rules.{lost, writes, isExhausted, begin, discovers, headerTo, unprotected, onward, wireRule, outRule, upRule, sameVia, agrees, received, inRule, estRule, authRule, grantRule, acknowledged, ackRule, rule}
+use Rattle.model.specs.Row.{onePeer, held, newest, admits, areNodes}
+use Rattle.model.specs.Rules.{lost, writes, isExhausted, begin, discovers, headerTo, unprotected, onward, wireRule, outRule, received, upRule, estRule, authRule, grantRule, acknowledged, ackRule, rule}
 use Rattle.model.specs.State.{begunAfter, addedRows}
 use Rattle.model.specs.Termination.{tripSteps, ceiling, isActive}
 use Rattle.model.proofs.Discovers.{server-discovers, not-exhausted}
 use Rattle.model.proofs.Named.{Written}
+use Rattle.model.proofs.Places.{node-bounds}
 use Rattle.model.proofs.Trips.{Trip, sent, onWire, Travels, gone, further, hops, comes, travels, trip-some}
-use Rattle.model.proofs.Underway.{Leaves, Ends, Discovering, Begun, Returning, Underway, discovering, establishing, requesting, responderAuth, responderGrant, replying, initiatorAuth, initiatorGrant, acknowledging, doneOut, doneOnWire, doneUp, doneIn, doneBare}
+use Rattle.model.proofs.Underway.{Leaves, Ends, Discovering, Begun, Returning, Underway, discovering, establishing, requesting, responderAuth, responderGrant, replying, initiatorAuth, initiatorGrant, acknowledging, doneOut, doneOnWire, doneUp, doneBare}
 use Rattle.model.proofs.Points.{nextNode, points, walk-found, walk-on, points-next, after-client, between-next, met-once, Chained, responderOut, responderIn, initiatorOut, initiatorIn, never-tunnelled, passed}
 
 -- it is counted, the item written is under way again, and the rows added are of the chain
@@ -38,11 +38,8 @@ pub record Next (net : Network) (c d b n : ℕ) (f : Effect) : Type 0 where
   pub written : Written (λ i. isActive i ≡ true → Underway net c d (begunAfter b (f .begins)) (n + 1) i) (f .outcome)
   pub added : All (Chained net c d (begunAfter b (f .begins))) (addedRows (f .added))
 
-same-via : (v : Via) (x : ℕ) → sameVia v (Peer x) ≡ true → v ≡ Peer x
-same-via Untunnelled x e = never e
-same-via (Peer q) x e = ap Peer (eqb-true q x e)
-
-module _ (net : Network) (standing : ℕ → ℕ → Bool) (t : Part) (n : ℕ) where
+-- what stands is told by the rows, as `local` of Local has it
+module _ (net : Network) (t : Part) (n : ℕ) where
   abbrev c : ℕ
   c = t .session .client
 
@@ -79,7 +76,7 @@ module _ (net : Network) (standing : ℕ → ℕ → Bool) (t : Part) (n : ℕ) 
         → After (received (p .destination) (p .source) (p .payload)) → After f
     on-trip p h (gone x) g r = loses h
     on-trip p h (further k i w m) g r = wrote h (g k i w m)
-    on-trip p h (hops next k z e) g r = moved-on next p k h (g (k - 1 + 3) _ (onWire (nextNode next) (k - 1)) (omega arith))
+    on-trip p h (hops next k z e) g r = moved-on next p k h (g (k - 1 + 2) _ (onWire (nextNode next) (k - 1)) (omega arith))
     on-trip p h comes g r = r
 
     -- the client discovers nothing
@@ -142,16 +139,18 @@ module _ (net : Network) (standing : ℕ → ℕ → Bool) (t : Part) (n : ℕ) 
         }))
 
     -- through the matching tunnel, or bare
-    done-out : (v : Via) (x k : ℕ) → Returning net c d b x k → tripSteps * k + n ≤ ceiling → After (writes (Wire x (under (bare d c Done) (headerTo x v)) hopLimit))
-    done-out Untunnelled x k w m = wrote (omega (arith, w .least)) (doneBare (onWire x hopLimit) (omega arith) (omega (arith, w .least)))
-    done-out (Peer q) x k w m = wrote (omega (arith, w .least)) (doneOnWire x k q _ x hopLimit w (omega (arith, w .least)))
+    done-out : (q x k : ℕ) → Returning net c d b x k → tripSteps * k + n ≤ ceiling → After (writes (Wire x (under (bare d c Done) (headerTo x (onePeer q))) hopLimit))
+    done-out q x k w m =
+        either (λ (h : Header). After (writes (Wire x (under (bare d c Done) h) hopLimit))) (eqb q 0)
+        (λ e. wrote (omega (arith, w .least)) (doneBare (onWire x hopLimit) (omega arith) (omega (arith, w .least))))
+        (λ e. wrote (omega (arith, w .least)) (doneOnWire x k q _ x hopLimit w (omega (arith, w .least))))
 
     -- out of the tunnel from x, and on from y, which is the point before
-    done-through : (x k y : ℕ) → Returning net c d b x k → tripSteps * (k - 1) + 1 + n ≤ ceiling
-        → agrees (held t) y (bare d c Done) (Peer x) ≡ true → (c ≡ y → ⊥) → After (writes (Out y (bare d c Done)))
-    done-through x k y w m e f =
-        let v = passed net c d b (ends .apart) y x (held t) rows (same-via (newest (held t) false y (bare d c Done)) x e) in
-        let same : k ≡ v .number = met-once net c d b (w .between) (w .server) k (v .number) (sym (w .here) ∙ v .far) (w .most) (v .few) in
+    done-through : (x k y : ℕ) → Returning net c d b x k → tripSteps * (k - 1) + 1 + n ≤ ceiling → areNodes y x ≡ true
+        → newest (held t) false y (bare d c Done) .first ≡ x → (c ≡ y → ⊥) → After (writes (Out y (bare d c Done)))
+    done-through x k y w m g e f =
+        let v = passed net c d b (ends .apart) y (held t) rows (λ z. absurd (omega (arith, node-bounds y x g, e, z))) in
+        let same : k ≡ v .number = met-once net c d b (w .between) (w .server) k (v .number) (sym (w .here) ∙ sym e ∙ v .far) (w .most) (v .few) in
         let on : 1 ≤ v .place = after-client net c d (v .place) (λ z. f (sym (v .near ∙ z))) in
         wrote (omega arith)
         (doneOut y (v .place)
@@ -161,8 +160,8 @@ module _ (net : Network) (standing : ℕ → ℕ → Bool) (t : Part) (n : ℕ) 
     initiator : (i : ℕ) → Begun net c d b i → point b ≡ c → ⊥
     initiator i w = w .between .client b (omega (arith, w .number)) (omega arith)
 
-    pub advances : (i : Item) → Underway net c d b n i → After (rule net standing t i)
-    unfolding rule wireRule outRule upRule inRule estRule authRule grantRule ackRule
+    pub advances : (i : Item) → Underway net c d b n i → After (rule net areNodes t i)
+    unfolding rule wireRule outRule upRule estRule authRule grantRule ackRule
     advances x (discovering a h w) =
         let p = bare c d (Disc (point b)) in
         let few : n + 1 ≤ ceiling = omega (arith, w .leaves, w .few) in
@@ -179,7 +178,7 @@ module _ (net : Network) (standing : ℕ → ℕ → Bool) (t : Part) (n : ℕ) 
     advances x (requesting i w v k) =
         let p = bare (point b) (point i) (Req b) in
         on-trip p (omega arith)
-        (travels net standing t (point b) (point i) (Req b) (λ g u x. refl)
+        (travels net areNodes t (point b) (point i) (Req b) (λ g u x. refl)
         (λ m. never-tunnelled net c d b (point b) p i (w .number) (w .between) (eq-eqb b b refl) (λ z. (initiator i w, z)) (held t) rows) v)
         (λ j x u m. requesting i w u (omega arith))
         (wrote (omega arith) (responderAuth i w (omega (arith, trip-some v))))
@@ -196,7 +195,7 @@ module _ (net : Network) (standing : ℕ → ℕ → Bool) (t : Part) (n : ℕ) 
     advances x (replying i w v k) =
         let p = bare (point i) (point b) (Rep b) in
         on-trip p (omega arith)
-        (travels net standing t (point i) (point b) (Rep b) (λ g u x. refl)
+        (travels net areNodes t (point i) (point b) (Rep b) (λ g u x. refl)
         (λ m. never-tunnelled net c d b (point i) p i (w .number) (w .between) (eq-eqb b b refl) (λ z. (z, initiator i w)) (held t) rows) v)
         (λ j x u m. replying i w u (omega arith))
         (record { counted = omega arith; written = λ o. initiatorAuth i w (omega (arith, trip-some v)); added = tt })
@@ -211,7 +210,7 @@ module _ (net : Network) (standing : ℕ → ℕ → Bool) (t : Part) (n : ℕ) 
           added = (initiatorOut i b (w .number) (omega arith), (initiatorIn i b (w .number) (omega arith), tt));
         }
     advances x (acknowledging i w k) = record { counted = omega arith; written = λ o. ack-next i w k; added = tt }
-    advances i (doneOut x k w m) = done-out (newest (held t) true x (bare d c Done)) x k w m
+    advances i (doneOut x k w m) = done-out (newest (held t) true x (bare d c Done) .first) x k w m
     advances i (doneOnWire x k q s y h w m) =
         let p = under (bare d c Done) (Tunnel x q s) in
         let few : n + 1 ≤ ceiling = omega arith in
@@ -220,15 +219,15 @@ module _ (net : Network) (standing : ℕ → ℕ → Bool) (t : Part) (n : ℕ) 
         (λ o. either After (eqb h 0) (λ z. loses few) (λ z. moved-on (nextHop net y q) p h few (doneOnWire x k q s (nextNode (nextHop net y q)) (h - 1) w (omega (arith, eqb-false h 0 z))))))
     advances i (doneUp x k q s y w m) =
         let few : n + 1 ≤ ceiling = omega arith in
-        either After (standing y x && admits (held t) y x) (λ e. wrote few (doneIn x k y w (omega arith))) (λ e. loses few)
-    advances i (doneIn x k y w m) =
-        let few : n + 1 ≤ ceiling = omega arith in
-        either After (not (agrees (held t) y (bare d c Done) (Peer x))) (λ e. loses few)
-        (λ e. either After (not (eqb c y))
-        (λ f. done-through x k y w m (not-false (agrees (held t) y (bare d c Done) (Peer x)) e) (eqb-false c y (not-true (eqb c y) f)))
-        (λ f. record { counted = few; written = tt; added = tt }))
+        let lets = areNodes y x && admits (held t) y x in
+        let same = eqb (newest (held t) false y (bare d c Done) .first) x in
+        either After (not lets) (λ e. loses few)
+        (λ e. either After (not same) (λ g. loses few)
+        (λ g. either After (not (eqb c y))
+        (λ f. done-through x k y w m (both (areNodes y x) (admits (held t) y x) (not-false lets e) .0) (eqb-true _ x (not-false same g)) (eqb-false c y (not-true (eqb c y) f)))
+        (λ f. record { counted = few; written = tt; added = tt })))
     advances i (doneBare v l m) =
         on-trip (bare d c Done) (omega (arith, trip-some v))
-        (travels net standing t d c Done (λ g u x. refl) (λ o. absurd (omega arith)) v)
+        (travels net areNodes t d c Done (λ g u x. refl) (λ o. absurd (omega arith)) v)
         (λ j x u o. doneBare u (omega arith) (omega arith))
         (record { counted = omega (arith, trip-some v); written = tt; added = tt })

@@ -1,7 +1,7 @@
 -- What each rule does to the weights of a set-up: the waits, the places, the Data items, the items that are neither, and the rows to
 -- come; and what it begins. Assumes nothing.
 use mathlib.Core.Path.{sym, subst, ap}
-use mathlib.Core.Bool.{Bool, true, not, _&&_}
+use mathlib.Core.Bool.{Bool, true, false, not, _&&_}
 use mathlib.Core.List.{List}
 use Prim.Native.Nat.{ℕ, _+_, _-_, _*_, _≤_}
 use native.Mathlib.Omega.{arith}
@@ -17,20 +17,19 @@ use Rattle.calculus.specs.declared.network.NextHop.the-variants.{Exact, Default
 use Rattle.calculus.specs.declared.packet.Payload.{Payload}
 use Rattle.calculus.specs.declared.packet.Payload.the-variants.{Req, Rep, Disc, Done, Data}
 use Rattle.calculus.specs.declared.packet.Header.{Header}
-use Rattle.calculus.specs.declared.packet.Header.the-variants.{Bare, Tunnel}
+use Rattle.calculus.specs.declared.packet.Header.the-variants.{Bare}
 use Rattle.calculus.specs.declared.packet.Packet.{Packet}
-use Rattle.calculus.specs.declared.packet.Via.{Via}
 use Rattle.calculus.specs.declared.packet.Side.{Side}
 use Rattle.calculus.specs.declared.packet.Side.the-variants.{Responder, Initiator}
 use Rattle.calculus.specs.declared.packet.Item.{Item}
-use Rattle.calculus.specs.declared.packet.Item.the-variants.{Free, Wire, Out, Up, In, Est, Auth, Grant, Ack, Dwait, Ewait}
+use Rattle.calculus.specs.declared.packet.Item.the-variants.{Free, Wire, Out, Up, Est, Auth, Grant, Ack, Dwait, Ewait}
 use Rattle.calculus.specs.declared.session.Row.{Row}
 use Rattle.calculus.specs.declared.session.Session.{Session}
 use Rattle.calculus.specs.declared.state.Part.{Part}
 use Rattle.model.specs.Network.{isGateway, nextHop, hasAllNeeded}
 use Rattle.model.specs.Packet.{bare, under, target, isData}
-use Rattle.model.specs.Row.{held, admits}
-use Rattle.model.specs.Rules.{writesFor, discovers, isExhausted, unprotected, onward, wireRule, outRule, headerStands, upWith, upRule, agrees, received, inRule, estRule, authRule, grantRule, ackRule, rule}
+use Rattle.model.specs.Row.{held, samePeers, newest}
+use Rattle.model.specs.Rules.{writesFor, discovers, isExhausted, unprotected, onward, wireRule, outRule, stripped, admitted, received, upRule, estRule, authRule, grantRule, ackRule, rule}
 use Rattle.model.specs.State.{writtenCount, stageAfter, begunAfter, addedRows}
 use Rattle.model.specs.SetUp.{isPending}
 use Rattle.model.proofs.Checks.{one}
@@ -74,28 +73,24 @@ wire-law gateway look s a p h =
     (λ e. either P (unprotected gateway p) (λ e. omega arith)
     (λ e. either P (eqb h 0) (λ e. omega arith) (λ e. onward-law (look (target p)) s a p h))))
 
-up-law : (x : Header) (inStands : Bool) (s : Session) (rows : List Row) (a : ℕ) (p : Packet) → Law s (Up a p) (upWith x inStands rows a p)
-unfolding uses space carries active due
-up-law Bare inStands s rows a p = omega arith
-up-law (Tunnel q to i) inStands s rows a p = either (Law s (Up a p)) (inStands && admits rows a q) (λ e. omega arith) (λ e. omega arith)
-
 -- a packet received at its destination
-received-law : (s : Session) (a b : ℕ) (y : Payload) (x : Header) (q : Via) → Law s (In a (under (bare b a y) x) q) (received a b y)
+received-law : (s : Session) (a b : ℕ) (y : Payload) (x : Header) → Law s (Up a (under (bare b a y) x)) (received a b y)
 unfolding uses space carries active due
-received-law s a b (Req e) x q = omega arith
-received-law s a b (Rep e) x q = omega (arith, wanted (In a (under (bare b a (Rep e)) x) q))
-received-law s a b (Disc p) x q = omega arith
-received-law s a b Done x q = omega arith
-received-law s a b (Data tag) x q = omega arith
+received-law s a b (Req e) x = omega arith
+received-law s a b (Rep e) x = omega (arith, wanted (Up a (under (bare b a (Rep e)) x)))
+received-law s a b (Disc p) x = omega arith
+received-law s a b Done x = omega arith
+received-law s a b (Data tag) x = omega arith
 
-in-law : (s : Session) (rows : List Row) (a : ℕ) (p : Packet) (q : Via) → Law s (In a p q) (inRule rows a p q)
-unfolding uses space carries active due inRule
-in-law s rows a p q =
-    let P = Law s (In a p q) in
-    either P (not (agrees rows a p q)) (λ e. omega arith)
+up-law : (standing : ℕ → ℕ → Bool) (s : Session) (rows : List Row) (a : ℕ) (p : Packet) → Law s (Up a p) (upRule standing rows a p)
+unfolding uses space carries active due upRule
+up-law standing s rows a p =
+    let P = Law s (Up a p) in
+    either P (not (admitted standing rows a (p .header))) (λ e. omega arith)
+    (λ e. either P (not (samePeers (newest rows false a (under p Bare)) (stripped (p .header)))) (λ e. omega arith)
     (λ e. either P (not (eqb (p .destination) a)) (λ e. omega arith)
-    (λ e. subst (λ (x : ℕ). Law s (In a (under (bare (p .source) x (p .payload)) (p .header)) q) (received a (p .source) (p .payload)))
-    (sym (eqb-true (p .destination) a (not-false (eqb (p .destination) a) e))) (received-law s a (p .source) (p .payload) (p .header) q)))
+    (λ e. subst (λ (x : ℕ). Law s (Up a (under (bare (p .source) x (p .payload)) (p .header))) (received a (p .source) (p .payload)))
+    (sym (eqb-true (p .destination) a (not-false (eqb (p .destination) a) e))) (received-law s a (p .source) (p .payload) (p .header)))))
 
 auth-law : (enough : Bool) (s : Session) (a q e : ℕ) (side : Side) → Law s (Auth a q e side) (authRule enough a q e side)
 unfolding uses space carries active due authRule
@@ -113,12 +108,11 @@ ack-law s a e =
     either (λ (i : Item). Law s (Ack a e) (writesFor (ackRule s a .wait) i)) (eqb a (s .server)) (λ k. omega (arith, h)) (λ k. omega (arith, h))
 
 pub rule-law : (n : Network) (standing : ℕ → ℕ → Bool) (t : Part) (i : Item) → Law (t .session) i (rule n standing t i)
-unfolding uses space carries active due rule outRule upRule estRule
+unfolding uses space carries active due rule outRule estRule
 rule-law n standing t Free = omega arith
 rule-law n standing t (Wire a p h) = wire-law (isGateway n a) (nextHop n a) (t .session) a p h
 rule-law n standing t (Out a p) = omega arith
-rule-law n standing t (Up a p) = up-law (p .header) (headerStands standing a (p .header)) (t .session) (held t) a p
-rule-law n standing t (In a p q) = in-law (t .session) (held t) a p q
+rule-law n standing t (Up a p) = up-law standing (t .session) (held t) a p
 rule-law n standing t (Est a b e) = omega arith
 rule-law n standing t (Auth a q e side) = auth-law (hasAllNeeded n a q) (t .session) a q e side
 rule-law n standing t (Grant a q e side) = grant-law (t .session) a q e side

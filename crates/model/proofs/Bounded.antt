@@ -61,7 +61,7 @@ module _ (network : Network) (t : Part) (h : Sane t) (n : ℕ) (k : Tracked netw
       checked-either (λ (m : Move). Counts network n (cond (isSetUpItem item) (n + 1) n) (seenMove t m)) refuse (λ r. k) _
       (λ e.
       rw (outcome-answers (t .session .last .0) (rule network areNodes t item .outcome))
-      (step-tracked network areNodes t h n k at (leb-false 16 at (e .1 .0)) (e .1 .1 .0)))
+      (step-tracked network t h n k at (leb-false 16 at (e .1 .0)) (e .1 .1 .0)))
 
   -- the first Disc is on its way to the first point
   tracked-opening : (c d : ℕ) → unused t ≡ true → Ends network c d → Tracked network (opening t c d) 0

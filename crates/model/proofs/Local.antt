@@ -14,11 +14,8 @@ use Rattle.calculus.specs.declared.answer.Refusal.the-variants.{Range, Short}
 use Rattle.calculus.specs.declared.network.Network.{Network}
 use Rattle.calculus.specs.declared.packet.Header.{Header}
 use Rattle.calculus.specs.declared.packet.Header.the-variants.{Bare, Tunnel}
-use Rattle.calculus.specs.declared.packet.Packet.{Packet}
-use Rattle.calculus.specs.declared.answer.Loss.the-variants.{NoTunnel}
-use Rattle.calculus.specs.declared.packet.Via.the-variants.{Peer}
 use Rattle.calculus.specs.declared.packet.Item.{Item}
-use Rattle.calculus.specs.declared.packet.Item.the-variants.{Free, Wire, Out, Up, In, Est, Auth, Grant, Ack, Dwait, Ewait}
+use Rattle.calculus.specs.declared.packet.Item.the-variants.{Free, Wire, Out, Up, Est, Auth, Grant, Ack, Dwait, Ewait}
 use Rattle.calculus.specs.declared.request.Request as request
 use Rattle.calculus.specs.declared.request.Request.the-variants.{Node, Route, Open, Step, Send, Close, Show, Net}
 use Rattle.calculus.specs.declared.state.Part.{Part}
@@ -29,9 +26,8 @@ use Rattle.forms.specs.declared.read.Reading.{Reading}
 use Rattle.forms.specs.Text.{Form}
 use Rattle.forms.specs.Read.{read}
 use Rattle.forms.specs.Request.{inRange, asked}
-use Rattle.model.specs.Packet.{under}
 use Rattle.model.specs.Row.{held, admits, areNodes, usersOf, stands}
-use Rattle.model.specs.Rules.{writes, lost, upWith, upRule, headerStands, rule}
+use Rattle.model.specs.Rules.{admitted, upRule, rule}
 use Rattle.model.specs.State.{load}
 use Rattle.model.specs.Requests.{Move, refuse, moved, stepAt, stepMove, performed}
 use Rattle.model.specs.Calls.{Lines, answer, report, Reply, Call, call, answered, repliedTo, refusalIn, oneAnswer, short, formNames, isOwn}
@@ -53,19 +49,16 @@ and-same false false b h = refl
 
 -- where an in row of this part tells that its association stands, no rule reads what stands
 module _ (n : Network) (standing : ℕ → ℕ → Bool) (t : Part) (h : (a q : ℕ) → admits (held t) a q ≡ true → standing a q ≡ areNodes a q) where
-  up-same : (a : ℕ) (p : Packet) (x : Header) → upWith x (headerStands standing a x) (held t) a p ≡ upWith x (headerStands areNodes a x) (held t) a p
-  up-same a p Bare = refl
-  up-same a p (Tunnel q to i) =
-      ap (λ (b : Bool). cond b (writes (In a (under p Bare) (Peer q))) (lost NoTunnel))
-      (and-same (standing a q) (areNodes a q) (admits (held t) a q) (h a q))
+  admitted-same : (a : ℕ) (x : Header) → admitted standing (held t) a x ≡ admitted areNodes (held t) a x
+  admitted-same a Bare = refl
+  admitted-same a (Tunnel q to i) = and-same (standing a q) (areNodes a q) (admits (held t) a q) (h a q)
 
   rule-same : (i : Item) → rule n standing t i ≡ rule n areNodes t i
   unfolding rule upRule
   rule-same Free = refl
   rule-same (Wire a p k) = refl
   rule-same (Out a p) = refl
-  rule-same (Up a p) = up-same a p (p .header)
-  rule-same (In a p q) = refl
+  rule-same (Up a p) = rw (admitted-same a (p .header))
   rule-same (Est a b e) = refl
   rule-same (Auth a q e s) = refl
   rule-same (Grant a q e s) = refl

@@ -5,32 +5,27 @@ use mathlib.Core.List.{List, [], _∷_}
 use Prim.Native.Nat.{ℕ}
 use Rattle.calculus.proofs.Tests.{either}
 use Rattle.calculus.specs.declared.packet.Packet.{Packet}
-use Rattle.calculus.specs.declared.packet.Via.{Via}
-use Rattle.calculus.specs.declared.packet.Via.the-variants.{Untunnelled, Peer}
+use Rattle.calculus.specs.declared.session.Peers.{Peers}
 use Rattle.calculus.specs.declared.session.Row.{Row}
 use Rattle.model.specs.Lists.{fold, All}
-use Rattle.model.specs.Row.{fits, newer, newest}
-
--- of the peer, if there is one
-abbrev pub OfVia : (ℕ → Type 0) → Via → Type 0
-OfVia R Untunnelled = Unit
-OfVia R (Peer q) = R q
+use Rattle.model.specs.Row.{noPeers, fits, newer, newest}
 
 module _ (out : Bool) (a : ℕ) (p : Packet) where
   module _ (R : ℕ → Type 0) where
-    of-newer : (best : Via) (rows : List Row) → All (λ r. fits out a p r ≡ true → R (r .peer)) rows → OfVia R best → OfVia R (fold (newer out a p) best rows)
+    -- of the peer, if there is one
+    abbrev OfPeers : Peers → Type 0
+    OfPeers x = (x .first ≡ 0 → ⊥) → R (x .first)
+
+    of-newer : (best : Peers) (rows : List Row) → All (λ r. fits out a p r ≡ true → R (r .peers .first)) rows → OfPeers best → OfPeers (fold (newer out a p) best rows)
     of-newer best [] h k = k
-    of-newer best (r ∷ rows) h k = of-newer (newer out a p best r) rows (h .1) (either (OfVia R) (fits out a p r) (h .0) (λ e. k))
+    of-newer best (r ∷ rows) h k = of-newer (newer out a p best r) rows (h .1) (either OfPeers (fits out a p r) (λ e n. h .0 e) (λ e. k))
 
-    pub of-match : (rows : List Row) → All (λ r. fits out a p r ≡ true → R (r .peer)) rows → OfVia R (newest rows out a p)
-    of-match rows h = of-newer Untunnelled rows h tt
+    pub of-newest : (rows : List Row) → All (λ r. fits out a p r ≡ true → R (r .peers .first)) rows → OfPeers (newest rows out a p)
+    of-newest rows h = of-newer noPeers rows h (λ n. absurd (n refl))
 
-    pub of-newest : (q : ℕ) (rows : List Row) → All (λ r. fits out a p r ≡ true → R (r .peer)) rows → newest rows out a p ≡ Peer q → R q
-    of-newest q rows h e = rw e at (of-match rows h)
-
-  pub none-newest : (rows : List Row) → All (λ r. fits out a p r ≡ false) rows → newest rows out a p ≡ Untunnelled
-  none-newest rows h = go Untunnelled rows h
+  pub none-newest : (rows : List Row) → All (λ r. fits out a p r ≡ false) rows → newest rows out a p ≡ noPeers
+  none-newest rows h = go noPeers rows h
     where
-      go : (best : Via) (rows : List Row) → All (λ r. fits out a p r ≡ false) rows → fold (newer out a p) best rows ≡ best
+      go : (best : Peers) (rows : List Row) → All (λ r. fits out a p r ≡ false) rows → fold (newer out a p) best rows ≡ best
       go best [] h = refl
       go best (r ∷ rows) h = rw (h .0) (go best rows (h .1))

@@ -1,13 +1,12 @@
 -- Every rule writes items and rows that name nodes only, no Disc but on a wire, and no wire of over 32 hops. Assumes nothing.
 use mathlib.Core.Path.{_≡_, refl, sym, ap, _∙_}
-use mathlib.Core.Bool.{Bool, true, false, not, _&&_}
+use mathlib.Core.Bool.{Bool, true, false, not}
 use mathlib.Core.List.{List}
 use Prim.Native.Nat.{ℕ, _≤_}
 use native.Mathlib.Omega.{arith}
 use lib.Dec.{eqb}
 use borrow.Author.Tests.{eqb-true, eqb-false}
-use Rattle.calculus.proofs.Tests.{both, never, either}
-use Rattle.calculus.specs.Number.{isNode}
+use Rattle.calculus.proofs.Tests.{never, either}
 use Rattle.calculus.specs.declared.effect.Outcome.{Outcome}
 use Rattle.calculus.specs.declared.effect.Outcome.the-variants.{Wrote, WroteByDefault, WroteTwo, Lost, Denied, Opened, Delivered}
 use Rattle.calculus.specs.declared.effect.Effect.{Effect}
@@ -17,48 +16,31 @@ use Rattle.calculus.specs.declared.network.NextHop.the-variants.{Exact, Default
 use Rattle.calculus.specs.declared.packet.Payload.{Payload}
 use Rattle.calculus.specs.declared.packet.Payload.the-variants.{Req, Rep, Disc, Done, Data}
 use Rattle.calculus.specs.declared.packet.Header.{Header}
-use Rattle.calculus.specs.declared.packet.Header.the-variants.{Bare, Tunnel}
+use Rattle.calculus.specs.declared.packet.Header.the-variants.{Bare}
 use Rattle.calculus.specs.declared.packet.Packet.{Packet}
-use Rattle.calculus.specs.declared.packet.Via.{Via}
-use Rattle.calculus.specs.declared.packet.Via.the-variants.{Untunnelled, Peer}
 use Rattle.calculus.specs.declared.packet.Side.{Side}
 use Rattle.calculus.specs.declared.packet.Side.the-variants.{Responder, Initiator}
 use Rattle.calculus.specs.declared.packet.Item.{Item}
-use Rattle.calculus.specs.declared.packet.Item.the-variants.{Free, Wire, Out, Up, In, Est, Auth, Grant, Ack, Dwait, Ewait}
+use Rattle.calculus.specs.declared.packet.Item.the-variants.{Free, Wire, Out, Up, Est, Auth, Grant, Ack, Dwait, Ewait}
 use Rattle.calculus.specs.declared.session.Row.{Row}
 use Rattle.calculus.specs.declared.session.Session.{Session}
 use Rattle.calculus.specs.declared.state.Part.{Part}
 use Rattle.model.specs.Network.{isGateway, nextHop, hasAllNeeded}
-use Rattle.model.specs.Packet.{bare, headedTo, target}
-use Rattle.model.specs.Row.{held, newest, admits, areNodes}
-use Rattle.model.specs.Rules.{discovers, lastPoint, isExhausted, unprotected, onward, wireRule, headerTo, outRule, headerStands, upWith, upRule, agrees, received, inRule, estRule, authRule, grantRule, ackRule, rule}
+use Rattle.model.specs.Packet.{under, headedTo, target}
+use Rattle.model.specs.Row.{held, samePeers, newest, areNodes}
+use Rattle.model.specs.Rules.{discovers, lastPoint, isExhausted, unprotected, onward, wireRule, outRule, stripped, admitted, received, upRule, estRule, authRule, grantRule, ackRule, rule}
 use Rattle.model.specs.State.{addedRows}
 use Rattle.model.specs.SetUp.{isDisc, LeadsToGiven}
 use Rattle.model.specs.Lists.{All}
 use Rattle.model.specs.GivenBack.{Consistent}
-use Rattle.model.proofs.Lists.{all-map}
 use Rattle.model.proofs.Places.{are-nodes}
 use Rattle.model.proofs.Discovers.{discovers-disc, server-discovers}
-use Rattle.model.proofs.Match.{OfVia, of-match}
 use Rattle.model.proofs.Nodes.{Node, given-node, hop-given}
 
 -- ---- what an item may name, v being the server
 
-abbrev HeaderNamed : Header → Type 0
-HeaderNamed Bare = Unit
-HeaderNamed (Tunnel from to spi) = Node from × Node to
-
-abbrev ViaNamed : Via → Type 0
-ViaNamed = OfVia Node
-
-pub record PacketNamed (p : Packet) : Type 0 where
-  source : Node (p .source)
-  destination : Node (p .destination)
-  header : HeaderNamed (p .header)
-
--- a packet with no header between nodes
-pub bare-named : (a b : ℕ) (y : Payload) → Node a → Node b → PacketNamed (bare a b y)
-bare-named a b y h k = record { source = h; destination = k; header = tt }
+abbrev PacketNamed : Packet → Type 0
+PacketNamed p = Node (p .source) × Node (p .destination)
 
 -- on a wire a Disc is bare, goes to the server, and its last point is a node before that
 abbrev DiscNamed : ℕ → Payload → ℕ → Header → Type 0
@@ -72,7 +54,6 @@ Named v Free = Unit
 Named v (Wire a p h) = Node a × PacketNamed p × DiscNamed v (p .payload) (p .destination) (p .header) × (h ≤ 32)
 Named v (Out a p) = Node a × PacketNamed p × NoDisc (p .payload)
 Named v (Up a p) = Node a × PacketNamed p × NoDisc (p .payload)
-Named v (In a p q) = Node a × PacketNamed p × NoDisc (p .payload) × ViaNamed q
 Named v (Est a b e) = Node a × Node b
 Named v (Auth a q e side) = Node a × Node q
 Named v (Grant a q e side) = Node a × Node q
@@ -81,7 +62,7 @@ Named v (Dwait a) = Unit
 Named v (Ewait a e) = Unit
 
 abbrev pub RowNamed : Row → Type 0
-RowNamed r = areNodes (r .node) (r .peer) ≡ true
+RowNamed r = areNodes (r .node) (r .peers .first) ≡ true
 
 -- of each item written
 abbrev pub Written : (Item → Type 0) → Outcome → Type 0
@@ -132,38 +113,9 @@ wire-named n s a p h k o =
     (λ e. either P (unprotected gateway p) (λ e. (tt, tt))
     (λ e. either P (eqb h 0) (λ e. (tt, tt)) (λ e. onward-named n v (nextHop n a (target p)) a p h k o))))
 
--- the peer of the newest row that fits
-newest-named : (out : Bool) (a : ℕ) (p : Packet) (rows : List Row) → All RowNamed rows → ViaNamed (newest rows out a p)
-newest-named out a p rows h = of-match out a p Node rows (all-map RowNamed _ (λ r k e. both (isNode (r .node)) (isNode (r .peer)) k .1) rows h)
-
-header-named : (a : ℕ) (q : Via) → Node a → ViaNamed q → HeaderNamed (headerTo a q)
-header-named a Untunnelled h k = tt
-header-named a (Peer q) h k = (h, k)
-
-out-named : (v : ℕ) (rows : List Row) (a : ℕ) (p : Packet) → All RowNamed rows → Named v (Out a p) → EffectNamed v (outRule rows a p)
+out-named : (v : ℕ) (rows : List Row) (a : ℕ) (p : Packet) → Named v (Out a p) → EffectNamed v (outRule rows a p)
 unfolding outRule
-out-named v rows a p h o =
-    let q = newest rows true a p in (
-      (
-        o .0,
-        record {
-          source = o .1 .source;
-          destination = o .1 .destination;
-          header = header-named a q (o .0) (newest-named true a p rows h);
-        },
-        λ e. never (sym (o .2) ∙ e),
-        omega arith,
-      ),
-      tt,
-    )
-
-up-named : (v : ℕ) (x : Header) (inStands : Bool) (rows : List Row) (a : ℕ) (p : Packet) → HeaderNamed x → Named v (Up a p)
-    → EffectNamed v (upWith x inStands rows a p)
-up-named v Bare inStands rows a p k o = ((o .0, o .1, o .2, tt), tt)
-up-named v (Tunnel q to i) inStands rows a p k o =
-    either (EffectNamed v) (inStands && admits rows a q)
-    (λ e. ((o .0, record { source = o .1 .source; destination = o .1 .destination; header = tt }, o .2, k .0), tt))
-    (λ e. (tt, tt))
+out-named v rows a p o = ((o .0, o .1, λ e. never (sym (o .2) ∙ e), omega arith), tt)
 
 received-named : (v a b : ℕ) (y : Payload) → Node a → Node b → EffectNamed v (received a b y)
 received-named v a b (Req e) h k = ((h, k), tt)
@@ -172,37 +124,37 @@ received-named v a b (Disc p) h k = (tt, tt)
 received-named v a b Done h k = (tt, tt)
 received-named v a b (Data tag) h k = (tt, tt)
 
-in-named : (v : ℕ) (rows : List Row) (a : ℕ) (p : Packet) (q : Via) → Named v (In a p q) → EffectNamed v (inRule rows a p q)
-unfolding inRule
-in-named v rows a p q o =
+up-named : (v : ℕ) (standing : ℕ → ℕ → Bool) (rows : List Row) (a : ℕ) (p : Packet) → Named v (Up a p) → EffectNamed v (upRule standing rows a p)
+unfolding upRule
+up-named v standing rows a p o =
     let P = EffectNamed v in
-    either P (not (agrees rows a p q)) (λ e. (tt, tt))
-    (λ e. either P (not (eqb (p .destination) a)) (λ e. ((o .0, o .1, o .2), tt))
-    (λ e. received-named v a (p .source) (p .payload) (o .0) (o .1 .source)))
+    either P (not (admitted standing rows a (p .header))) (λ e. (tt, tt))
+    (λ e. either P (not (samePeers (newest rows false a (under p Bare)) (stripped (p .header)))) (λ e. (tt, tt))
+    (λ e. either P (not (eqb (p .destination) a)) (λ e. (o, tt))
+    (λ e. received-named v a (p .source) (p .payload) (o .0) (o .1 .0))))
 
 grant-named : (v : ℕ) (s : Session) (a q e : ℕ) (side : Side) → Node a → Node q → EffectNamed v (grantRule s a q e side)
 unfolding grantRule
-grant-named v s a q e Responder h k = let n = are-nodes a q h k in ((h, bare-named a q (Rep e) h k, refl), (n, (n, tt)))
+grant-named v s a q e Responder h k = let n = are-nodes a q h k in ((h, (h, k), refl), (n, (n, tt)))
 grant-named v s a q e Initiator h k = let n = are-nodes a q h k in (h, (n, (n, tt)))
 
 ack-named : (s : Session) (a : ℕ) → Node (s .client) → Node (s .server) → Node a → EffectNamed (s .server) (ackRule s a)
 unfolding ackRule
 ack-named s a c d h = (
-  either (Named (s .server)) (eqb a (s .server)) (λ e. (h, bare-named (s .server) (s .client) Done d c, refl))
-      (λ e. (h, bare-named (s .client) (s .server) (Disc a) c d, λ k. (h, eqb-false a (s .server) e, refl, refl), omega arith)),
+  either (Named (s .server)) (eqb a (s .server)) (λ e. (h, (d, c), refl))
+      (λ e. (h, (c, d), λ k. (h, eqb-false a (s .server) e, refl, refl), omega arith)),
   tt,
 )
 
 module _ (n : Network) (hn : Consistent n) (standing : ℕ → ℕ → Bool) (t : Part) where
   pub rule-named : All RowNamed (held t) → Node (t .session .client) → Node (t .session .server) → (i : Item) → Named (t .session .server) i
       → EffectNamed (t .session .server) (rule n standing t i)
-  unfolding rule upRule estRule authRule
+  unfolding rule estRule authRule
   rule-named h c d Free o = (tt, tt)
   rule-named h c d (Wire a p x) o = wire-named n (t .session) a p x (hop-given n hn a (target p)) o
-  rule-named h c d (Out a p) o = out-named (t .session .server) (held t) a p h o
-  rule-named h c d (Up a p) o = up-named (t .session .server) (p .header) (headerStands standing a (p .header)) (held t) a p (o .1 .header) o
-  rule-named h c d (In a p q) o = in-named (t .session .server) (held t) a p q o
-  rule-named h c d (Est a b e) o = (((o .0, bare-named a b (Req e) (o .0) (o .1), refl), tt), tt)
+  rule-named h c d (Out a p) o = out-named (t .session .server) (held t) a p o
+  rule-named h c d (Up a p) o = up-named (t .session .server) standing (held t) a p o
+  rule-named h c d (Est a b e) o = (((o .0, o, refl), tt), tt)
   rule-named h c d (Auth a q e side) o = either (EffectNamed (t .session .server)) (hasAllNeeded n a q) (λ e. (o, tt)) (λ e. (tt, tt))
   rule-named h c d (Grant a q e side) o = grant-named (t .session .server) (t .session) a q e side (o .0) (o .1)
   rule-named h c d (Ack a e) o = ack-named (t .session) a c d o

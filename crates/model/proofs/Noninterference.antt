@@ -38,8 +38,8 @@ all-stand : (l : List ℕ) (rs : List Row) → ((out : Bool) (a q : ℕ) → are
 unfolding howMany
 all-stand l [] h n = tt
 all-stand l (r ∷ rs) h n =
-    let k = rw (same-itself (r .out) (r .node) (r .peer)) at (h (r .out) (r .node) (r .peer) (n .0)) in
-    (lt-ltb 0 (usersOf l (r .out) (r .node) (r .peer)) (omega arith), all-stand l rs (λ out a q e. omega (arith, h out a q e)) (n .1))
+    let k = rw (same-itself (r .out) (r .node) (r .peers .first)) at (h (r .out) (r .node) (r .peers .first) (n .0)) in
+    (lt-ltb 0 (usersOf l (r .out) (r .node) (r .peers .first)) (omega arith), all-stand l rs (λ out a q e. omega (arith, h out a q e)) (n .1))
 
 -- ---- the promise
 

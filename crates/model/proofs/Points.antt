@@ -13,12 +13,11 @@ use Rattle.calculus.specs.declared.network.NextHop.{NextHop}
 use Rattle.calculus.specs.declared.network.NextHop.the-variants.{Exact, Default, Missing}
 use Rattle.calculus.specs.declared.packet.Payload.the-variants.{Disc, Done}
 use Rattle.calculus.specs.declared.packet.Packet.{Packet}
-use Rattle.calculus.specs.declared.packet.Via.the-variants.{Untunnelled, Peer}
 use Rattle.calculus.specs.declared.session.Row.{Row}
 use Rattle.model.specs.Lists.{All}
 use Rattle.model.specs.Network.{isGateway, nextHop}
 use Rattle.model.specs.Packet.{hopLimit, bare}
-use Rattle.model.specs.Row.{outRow, inRow, skips, fits, newest}
+use Rattle.model.specs.Row.{noPeers, outRow, inRow, skips, fits, newest}
 use Rattle.model.specs.Rules.{discovers}
 use Rattle.model.proofs.Lists.{all-map}
 use Rattle.model.proofs.Match.{of-newest, none-newest}
@@ -144,7 +143,7 @@ module _ (net : Network) (c d b : ℕ) where
     -- neither Req nor Rep of establishment b goes through a tunnel
     pub never-tunnelled : (i : ℕ) → b ≡ i + 1 → Between net c d b → skips (p .payload) b ≡ true
         → ((points net c d i ≡ c → ⊥) → (p .source ≡ c → ⊥) × (p .destination ≡ c → ⊥)) → (rows : List Row) → All row rows
-        → newest rows true x p ≡ Untunnelled
+        → newest rows true x p ≡ noPeers
     never-tunnelled zero o h k f rows rs =
         none-newest true x p rows (all-map row _ (first-skipped (omega arith) k) rows rs)
     never-tunnelled (suc i) o h k f rows rs =
@@ -160,12 +159,12 @@ module _ (net : Network) (c d b : ℕ) where
     pub few : number ≤ b
 
   module _ (apart : c ≡ d → ⊥) (y : ℕ) where
-    passed-row : (r : Row) → row r → fits false y (bare d c Done) r ≡ true → Through y (r .peer)
+    passed-row : (r : Row) → row r → fits false y (bare d c Done) r ≡ true → Through y (r .peers .first)
     passed-row r (responderOut i e w m) f = never f
     passed-row r (responderIn i e w m) f =
         record { place = i; near = sym (eqb-true (points net c d i) y (simp (eq-eqb d d refl, eq-eqb c c refl, and-true) at f)); number = e; far = refl; follows = w; few = m }
     passed-row r (initiatorOut i e w m) f = never f
     passed-row r (initiatorIn i e w m) f = never (sym (simp (ne-eqb c d apart, and-false)) ∙ f)
 
-    pub passed : (x : ℕ) (rows : List Row) → All row rows → newest rows false y (bare d c Done) ≡ Peer x → Through y x
-    passed x rows rs e = of-newest false y (bare d c Done) (Through y) x rows (all-map row _ passed-row rows rs) e
+    pub passed : (rows : List Row) → All row rows → (newest rows false y (bare d c Done) .first ≡ 0 → ⊥) → Through y (newest rows false y (bare d c Done) .first)
+    passed rows rs = of-newest false y (bare d c Done) (Through y) rows (all-map row _ passed-row rows rs)

@@ -39,7 +39,7 @@ use Rattle.model.proofs.Balance.{rule-law}
 use Rattle.model.proofs.Pending.{Distinct, distinct-step, distinct-item}
 use Rattle.model.proofs.Roomy.{Roomy, emptied, roomy-empty, roomy-step, roomy-item}
 use Rattle.model.proofs.Moves.{held-applied}
-use Rattle.model.proofs.Named.{bare-named, Named, RowNamed, Written, rule-named}
+use Rattle.model.proofs.Named.{Named, RowNamed, Written, rule-named}
 
 -- ---- every item
 
@@ -187,7 +187,7 @@ module _ (t : Part) (h : Sane t) where
       let i = Wire c (bare c d (Disc c)) hopLimit in
       sane-item Stage.SettingUp c d i refl l hc hd
       (all-unused (Named d) tt t h u)
-      (hc, bare-named c d (Disc c) hc hd, λ e. (hc, ne, refl, refl), omega arith)
+      (hc, (hc, hd), λ e. (hc, ne, refl, refl), omega arith)
       (roomy-item t (h .roomy) Stage.SettingUp c d i (λ v. refl) refl (omega arith) (omega arith)
       (omega (arith, weigh-le active space active-space (t .items))))
 
@@ -211,7 +211,7 @@ module _ (t : Part) (h : Sane t) where
         let i = Out a (bare a b (Data tag)) in
         let z : spare g ≡ 0 = rw u in
         let k = leb-false 12 (howManyItems isDataItem (t .items)) room in
-        sane-item g c d i u l (h .ends u .0) (h .ends u .1) (h .items) (ha, bare-named a b (Data tag) ha hb, refl)
+        sane-item g c d i u l (h .ends u .0) (h .ends u .1) (h .items) (ha, (ha, hb), refl)
         (roomy-item t (h .roomy) g c d i (λ v. refl) refl (omega arith) (omega (arith, counted isDataItem (t .items))) (omega arith))
 
     sane-sending : (w : Sender) → Sane (sending t w tag)

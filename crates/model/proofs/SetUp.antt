@@ -12,7 +12,7 @@ use Rattle.calculus.specs.declared.effect.Wait.{Wait}
 use Rattle.calculus.specs.declared.effect.Wait.the-variants.{NoWait, Discovery, Establishment}
 use Rattle.calculus.specs.declared.network.Network.{Network}
 use Rattle.calculus.specs.declared.packet.Item.{Item}
-use Rattle.calculus.specs.declared.packet.Item.the-variants.{Free, Wire, Out, Up, In, Est, Auth, Grant, Ack, Dwait, Ewait}
+use Rattle.calculus.specs.declared.packet.Item.the-variants.{Free, Wire, Out, Up, Est, Auth, Grant, Ack, Dwait, Ewait}
 use Rattle.calculus.specs.declared.packet.Slot.{Slot}
 use Rattle.calculus.specs.declared.session.Row.{Row}
 use Rattle.calculus.specs.declared.state.Part.{Part}
@@ -43,7 +43,6 @@ disc-on-wire v Free h = refl
 disc-on-wire v (Wire a p x) h = refl
 disc-on-wire v (Out a p) h = h .2
 disc-on-wire v (Up a p) h = h .2
-disc-on-wire v (In a p q) h = h .2
 disc-on-wire v (Est a b e) h = refl
 disc-on-wire v (Auth a q e side) h = refl
 disc-on-wire v (Grant a q e side) h = refl
@@ -112,7 +111,6 @@ hops-few v Free h = omega arith
 hops-few v (Wire a p x) h = h .3
 hops-few v (Out a p) h = omega arith
 hops-few v (Up a p) h = omega arith
-hops-few v (In a p q) h = omega arith
 hops-few v (Est a b e) h = omega arith
 hops-few v (Auth a q e side) h = omega arith
 hops-few v (Grant a q e side) h = omega arith

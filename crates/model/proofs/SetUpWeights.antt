@@ -14,7 +14,7 @@ use Rattle.calculus.specs.declared.packet.Packet.{Packet}
 use Rattle.calculus.specs.declared.packet.Side.{Side}
 use Rattle.calculus.specs.declared.packet.Side.the-variants.{Responder, Initiator}
 use Rattle.calculus.specs.declared.packet.Item.{Item}
-use Rattle.calculus.specs.declared.packet.Item.the-variants.{Free, Wire, Out, Up, In, Est, Auth, Grant, Ack, Dwait, Ewait}
+use Rattle.calculus.specs.declared.packet.Item.the-variants.{Free, Wire, Out, Up, Est, Auth, Grant, Ack, Dwait, Ewait}
 use Rattle.calculus.specs.declared.packet.Slot.{Slot}
 use Rattle.calculus.specs.declared.session.Stage.{Stage}
 use Rattle.model.specs.Packet.{isData}
@@ -32,7 +32,6 @@ weight packet est side ack wait Free = 0
 weight packet est side ack wait (Wire a p h) = packet p
 weight packet est side ack wait (Out a p) = packet p
 weight packet est side ack wait (Up a p) = packet p
-weight packet est side ack wait (In a p q) = packet p
 weight packet est side ack wait (Est a b e) = est a
 weight packet est side ack wait (Auth a q e s) = side s a q e
 weight packet est side ack wait (Grant a q e s) = side s a q e
@@ -128,7 +127,6 @@ wanted Free = tt
 wanted (Wire a p h) = packet-wanted (p .destination) (p .source) (p .payload) (Wire a p h) (λ v. refl)
 wanted (Out a p) = packet-wanted (p .destination) (p .source) (p .payload) (Out a p) (λ v. refl)
 wanted (Up a p) = packet-wanted (p .destination) (p .source) (p .payload) (Up a p) (λ v. refl)
-wanted (In a p q) = packet-wanted (p .destination) (p .source) (p .payload) (In a p q) (λ v. refl)
 wanted (Est a b e) = tt
 wanted (Auth a q e side) = tt
 wanted (Grant a q e side) = tt
@@ -162,7 +160,6 @@ set-up-space Free = omega arith
 set-up-space (Wire a p h) = packet-space (p .payload)
 set-up-space (Out a p) = packet-space (p .payload)
 set-up-space (Up a p) = packet-space (p .payload)
-set-up-space (In a p q) = packet-space (p .payload)
 set-up-space (Est a b e) = omega arith
 set-up-space (Auth a q e side) = side-space side
 set-up-space (Grant a q e side) = side-space side
@@ -205,7 +202,6 @@ grant-due Free = omega arith
 grant-due (Wire a p h) = omega arith
 grant-due (Out a p) = omega arith
 grant-due (Up a p) = omega arith
-grant-due (In a p q) = omega arith
 grant-due (Est a b e) = omega arith
 grant-due (Auth a q e side) = omega arith
 grant-due (Grant a q e side) = side-due side

@@ -21,7 +21,7 @@ use Rattle.calculus.specs.declared.session.Session.{Session}
 use Rattle.calculus.specs.declared.state.Part.{Part}
 use Rattle.model.specs.Lists.{All}
 use Rattle.model.specs.Item.{isWait}
-use Rattle.model.specs.Row.{held}
+use Rattle.model.specs.Row.{held, areNodes}
 use Rattle.model.specs.Rules.{rule}
 use Rattle.model.specs.State.{blankSlot, begunAfter, addedRows, placed, sessionAfter, applied}
 use Rattle.model.specs.Requests.{dataItem}
@@ -101,19 +101,19 @@ none-added P (Two r q) h = absurd (omega arith)
 
 -- ---- a step
 
-module _ (net : Network) (standing : ℕ → ℕ → Bool) (t : Part) (h : Sane t) (n : ℕ) (k : Tracked net t n)
+module _ (net : Network) (t : Part) (h : Sane t) (n : ℕ) (k : Tracked net t n)
     (at : ℕ) (b : at < 16) (w : isWait (itemAt (t .items) at) ≡ false) where
   abbrev item : Item
   item = itemAt (t .items) at
 
   abbrev effect : Effect
-  effect = rule net standing t item
+  effect = rule net areNodes t item
 
   abbrev stepped : Part
   stepped = applied t at effect
 
   law : Law (t .session) item effect
-  law = rule-law net standing t item
+  law = rule-law net areNodes t item
 
   abbrev begun : ℕ
   begun = begunAfter (t .session .begun) (effect .begins)
@@ -156,7 +156,7 @@ module _ (net : Network) (standing : ℕ → ℕ → Bool) (t : Part) (h : Sane 
   active-step : isActive item ≡ true → Tracked net stepped (n + 1)
   active-step e =
       let x = all-get (At (Tracks net _ _ _ n)) (t .items) at blankSlot (k .items) (λ o. never o) e in
-      let next = advances net standing t n (x .0) (k .rows) item (x .1) in
+      let next = advances net t n (x .0) (k .rows) item (x .1) in
       tracked-later (n + 1) (next .counted)
       (all-map (At Inactive) (At (Later (n + 1))) (λ s q o. never (sym q ∙ o)) rest (others-inactive e))
       (written-map _ (Later (n + 1)) (λ i v o. (x .0, v o)) (effect .outcome) (next .written))

@@ -8,9 +8,8 @@ use Rattle.calculus.specs.declared.number.Spi.{Spi}
 use Rattle.calculus.specs.declared.packet.Payload.the-variants.{Req, Rep, Disc, Done}
 use Rattle.calculus.specs.declared.packet.Header.the-variants.{Tunnel}
 use Rattle.calculus.specs.declared.packet.Side.the-variants.{Responder, Initiator}
-use Rattle.calculus.specs.declared.packet.Via.the-variants.{Peer}
 use Rattle.calculus.specs.declared.packet.Item.{Item}
-use Rattle.calculus.specs.declared.packet.Item.the-variants.{Wire, Out, Up, In, Est, Auth, Grant, Ack}
+use Rattle.calculus.specs.declared.packet.Item.the-variants.{Wire, Out, Up, Est, Auth, Grant, Ack}
 use Rattle.model.specs.Network.{isGateway}
 use Rattle.model.specs.Packet.{hopLimit, bare, under}
 use Rattle.model.specs.Rules.{establishmentLimit}
@@ -67,10 +66,9 @@ module _ (net : Network) (c d : ℕ) where
     acknowledging : (i : ℕ) → Begun b i → Leaves b n 1 → Underway b n (Ack (point b) b)
     -- a Done at x, point k, or in the tunnel out of x: a way for each tunnel from there to the client
     doneOut : (x k : ℕ) → Returning b x k → tripSteps * k + n ≤ ceiling → Underway b n (Out x (bare d c Done))
-    doneOnWire : (x k q : ℕ) (s : Spi) (y h : ℕ) → Returning b x k → tripSteps * (k - 1) + (h + 3) + n ≤ ceiling
+    doneOnWire : (x k q : ℕ) (s : Spi) (y h : ℕ) → Returning b x k → tripSteps * (k - 1) + (h + 2) + n ≤ ceiling
         → Underway b n (Wire y (under (bare d c Done) (Tunnel x q s)) h)
-    doneUp : (x k q : ℕ) (s : Spi) (y : ℕ) → Returning b x k → tripSteps * (k - 1) + 2 + n ≤ ceiling
+    doneUp : (x k q : ℕ) (s : Spi) (y : ℕ) → Returning b x k → tripSteps * (k - 1) + 1 + n ≤ ceiling
         → Underway b n (Up y (under (bare d c Done) (Tunnel x q s)))
-    doneIn : (x k y : ℕ) → Returning b x k → tripSteps * (k - 1) + 1 + n ≤ ceiling → Underway b n (In y (bare d c Done) (Peer x))
     -- with no tunnel out of a point it is on its last way
     doneBare : {j : ℕ} {x : Item} → Trip (bare d c Done) j x → j < tripSteps → j + n ≤ ceiling → Underway b n x

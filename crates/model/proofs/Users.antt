@@ -36,11 +36,11 @@ admits-some a q l e = ltb-true 0 (howMany false a q l) e
 with-length : (f : ℕ → ℕ) (l : List ℕ) (r : Row) → length (withUsers f l r) ≡ length l
 unfolding withUsers
 with-length f l r =
-    either (λ (x : List ℕ). length x ≡ length l) (areNodes (r .node) (r .peer)) (λ e. length-set l _ _) (λ e. refl)
+    either (λ (x : List ℕ). length x ≡ length l) (areNodes (r .node) (r .peers .first)) (λ e. length-set l _ _) (λ e. refl)
 
 -- the place of the users of the association that the row names
 abbrev rowPlace : Row → ℕ
-rowPlace r = usersPlace (r .out) (r .node) (r .peer)
+rowPlace r = usersPlace (r .out) (r .node) (r .peers .first)
 
 module _ (out : Bool) (a q : ℕ) (h : areNodes a q ≡ true) where
   abbrev at : ℕ
@@ -49,16 +49,16 @@ module _ (out : Bool) (a q : ℕ) (h : areNodes a q ≡ true) where
   with-users : (f : ℕ → ℕ) (l : List ℕ) (r : Row) → length l ≡ 2048
       → usersOf (withUsers f l r) out a q ≡ cond (names out a q r) (f (usersOf l out a q)) (usersOf l out a q)
   unfolding usersOf withUsers
-  with-users f l r hl = rw h (go (areNodes (r .node) (r .peer)) refl (names out a q r) refl)
+  with-users f l r hl = rw h (go (areNodes (r .node) (r .peers .first)) refl (names out a q r) refl)
     where
-      go : (b : Bool) → areNodes (r .node) (r .peer) ≡ b → (c : Bool) → names out a q r ≡ c
+      go : (b : Bool) → areNodes (r .node) (r .peers .first) ≡ b → (c : Bool) → names out a q r ≡ c
           → getD (cond b (set l (rowPlace r) (f (getD l (rowPlace r) 0))) l) at 0 ≡ cond c (f (getD l at 0)) (getD l at 0)
       go true k true e =
-          let n = same-parts (r .out) (r .node) (r .peer) out a q e in
+          let n = same-parts (r .out) (r .node) (r .peers .first) out a q e in
           rw (n .0, n .1, n .2) (getD-set-same l at (f (getD l at 0)) 0 (omega (arith, place-below out a q h)))
-      go true k false e = getD-set-other l (rowPlace r) at _ 0 (λ w. never (sym e ∙ one-place (r .out) (r .node) (r .peer) out a q k h (sym w)))
+      go true k false e = getD-set-other l (rowPlace r) at _ 0 (λ w. never (sym e ∙ one-place (r .out) (r .node) (r .peers .first) out a q k h (sym w)))
       go false k true e =
-          let n = same-parts (r .out) (r .node) (r .peer) out a q e in
+          let n = same-parts (r .out) (r .node) (r .peers .first) out a q e in
           never (sym k ∙ rw (n .1, n .2) h)
       go false k false e = refl
 

@@ -14,7 +14,7 @@ use Rattle.calculus.specs.declared.effect.Wait.{Wait}
 use Rattle.calculus.specs.declared.effect.Wait.the-variants.{NoWait, Discovery, Establishment}
 use Rattle.calculus.specs.declared.effect.Effect.{Effect}
 use Rattle.calculus.specs.declared.packet.Item.{Item}
-use Rattle.calculus.specs.declared.packet.Item.the-variants.{Free, Wire, Out, Up, In, Est, Auth, Grant, Ack, Dwait, Ewait}
+use Rattle.calculus.specs.declared.packet.Item.the-variants.{Free, Wire, Out, Up, Est, Auth, Grant, Ack, Dwait, Ewait}
 use Rattle.calculus.specs.declared.packet.Slot.{Slot}
 use Rattle.model.specs.Lists.{place}
 use Rattle.model.specs.State.{blankSlot, useUp, putItem, written, writtenCount, itemsAfter}
@@ -91,7 +91,6 @@ free-is Free k = refl
 free-is (Wire b p h) k = never k
 free-is (Out b p) k = never k
 free-is (Up b p) k = never k
-free-is (In b p q) k = never k
 free-is (Est b c f) k = never k
 free-is (Auth b q f side) k = never k
 free-is (Grant b q f side) k = never k
@@ -121,7 +120,6 @@ is-wait Free k = refl
 is-wait (Wire b p h) k = never k
 is-wait (Out b p) k = never k
 is-wait (Up b p) k = never k
-is-wait (In b p q) k = never k
 is-wait (Est b c f) k = never k
 is-wait (Auth b q f side) k = never k
 is-wait (Grant b q f side) k = never k

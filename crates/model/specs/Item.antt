@@ -6,7 +6,7 @@ use lib.Dec.{eqb}
 use Rattle.calculus.specs.declared.effect.Wait.{Wait}
 use Rattle.calculus.specs.declared.effect.Wait.the-variants.{NoWait, Discovery, Establishment}
 use Rattle.calculus.specs.declared.packet.Item.{Item}
-use Rattle.calculus.specs.declared.packet.Item.the-variants.{Free, Wire, Out, Up, In, Est, Auth, Grant, Ack, Dwait, Ewait}
+use Rattle.calculus.specs.declared.packet.Item.the-variants.{Free, Wire, Out, Up, Est, Auth, Grant, Ack, Dwait, Ewait}
 use Rattle.calculus.specs.declared.packet.Slot.{Slot}
 use Rattle.model.specs.Lists.{tally}
 use Rattle.model.specs.Packet.{isData}
@@ -17,7 +17,6 @@ isFree Free = true
 isFree (Wire a p h) = false
 isFree (Out a p) = false
 isFree (Up a p) = false
-isFree (In a p q) = false
 isFree (Est a b e) = false
 isFree (Auth a q e side) = false
 isFree (Grant a q e side) = false
@@ -31,7 +30,6 @@ waitIn Free = NoWait
 waitIn (Wire a p h) = NoWait
 waitIn (Out a p) = NoWait
 waitIn (Up a p) = NoWait
-waitIn (In a p q) = NoWait
 waitIn (Est a b e) = NoWait
 waitIn (Auth a q e side) = NoWait
 waitIn (Grant a q e side) = NoWait
@@ -67,7 +65,6 @@ isDataItem Free = false
 isDataItem (Wire a p h) = isData (p .payload)
 isDataItem (Out a p) = isData (p .payload)
 isDataItem (Up a p) = isData (p .payload)
-isDataItem (In a p q) = isData (p .payload)
 isDataItem (Est a b e) = false
 isDataItem (Auth a q e side) = false
 isDataItem (Grant a q e side) = false

@@ -43,31 +43,30 @@ oneWay = "(node 1 host (has) (needs))" ⇒ "(ok)" ∷ "(node 2 host (has) (needs
 abbrev pub pair : Listing
 pair = oneWay ++ "(route 2 1 1)" ⇒ "(ok)" ∷ []
 
--- a session's first establishment, "only stepping the lowest item that isn't a wait": until item 11, the responder's auth;
+-- a session's first establishment, "only stepping the lowest item that isn't a wait": until item 10, the responder's auth;
 abbrev pub toAuth : Listing
 toAuth =
     "(step u 1)" ⇒ "(made 2)" ∷ "(step u 2)" ⇒ "(made 3 4)" ∷ "(step u 4)" ⇒ "(made 5 6)" ∷ "(step u 5)" ⇒ "(made 7)"
-    ∷ "(step u 7)" ⇒ "(made 8)" ∷ "(step u 8)" ⇒ "(made 9)" ∷ "(step u 9)" ⇒ "(made 10)" ∷ "(step u 10)" ⇒ "(made 11)"
+    ∷ "(step u 7)" ⇒ "(made 8)" ∷ "(step u 8)" ⇒ "(made 9)" ∷ "(step u 9)" ⇒ "(made 10)"
     ∷ []
 
--- then through item 12, the responder's grant;
+-- then through item 11, the responder's grant;
 abbrev pub toGrant : Listing
-toGrant = toAuth ++ "(step u 11)" ⇒ "(made 12)" ∷ "(step u 12)" ⇒ "(made 13)" ∷ []
+toGrant = toAuth ++ "(step u 10)" ⇒ "(made 11)" ∷ "(step u 11)" ⇒ "(made 12)" ∷ []
 
--- then through items 19 and 20, the initiator's grant and ack
+-- then through items 17 and 18, the initiator's grant and ack
 abbrev pub toAck : Listing
 toAck =
     toGrant
-    ++ "(step u 13)" ⇒ "(made 14)" ∷ "(step u 14)" ⇒ "(made 15)" ∷ "(step u 15)" ⇒ "(made 16)" ∷ "(step u 16)" ⇒ "(made 17)"
-    ∷ "(step u 17)" ⇒ "(made 18)" ∷ "(step u 18)" ⇒ "(made 19)" ∷ "(step u 19)" ⇒ "(made 20)" ∷ "(step u 20)" ⇒ "(made 21)"
+    ++ "(step u 12)" ⇒ "(made 13)" ∷ "(step u 13)" ⇒ "(made 14)" ∷ "(step u 14)" ⇒ "(made 15)" ∷ "(step u 15)" ⇒ "(made 16)"
+    ∷ "(step u 16)" ⇒ "(made 17)" ∷ "(step u 17)" ⇒ "(made 18)" ∷ "(step u 18)" ⇒ "(made 19)"
     ∷ []
 
--- and through item 25, with which a session of one tunnel is open
+-- and through item 22, with which a session of one tunnel is open
 abbrev pub oneTunnel : Listing
 oneTunnel =
     toAck
-    ++ "(step u 21)" ⇒ "(made 22)" ∷ "(step u 22)" ⇒ "(made 23)" ∷ "(step u 23)" ⇒ "(made 24)" ∷ "(step u 24)" ⇒ "(made 25)"
-    ∷ "(step u 25)" ⇒ "(opened)"
+    ++ "(step u 19)" ⇒ "(made 20)" ∷ "(step u 20)" ⇒ "(made 21)" ∷ "(step u 21)" ⇒ "(made 22)" ∷ "(step u 22)" ⇒ "(opened)"
     ∷ []
 
 -- a session of the pair, from its open to stage open
@@ -78,8 +77,8 @@ toOpen = "(open u 1 2)" ⇒ "(made 1)" ∷ oneTunnel
 abbrev pub dataAtGrant : Listing
 dataAtGrant =
     "(open 1 1 2)" ⇒ "(made 1)" ∷ session 1 toGrant
-    ++ "(send 1 0 77)" ⇒ "(made 14)" ∷ "(step 1 14)" ⇒ "(made 15)" ∷ "(step 1 15)" ⇒ "(made 16)" ∷ "(step 1 16)" ⇒ "(made 17)"
-    ∷ "(step 1 17)" ⇒ "(lost 4)"
+    ++ "(send 1 0 77)" ⇒ "(made 13)" ∷ "(step 1 13)" ⇒ "(made 14)" ∷ "(step 1 14)" ⇒ "(made 15)" ∷ "(step 1 15)" ⇒ "(made 16)"
+    ∷ "(step 1 16)" ⇒ "(lost 4)"
     ∷ []
 
 -- ---- A to I
@@ -92,7 +91,7 @@ listingA =
     ∷ "(step 1 1)" ⇒ "(no 11)" ∷ "(close 1)" ⇒ "(closed)" ∷ "(step 1 4)" ⇒ "(no 7)" ∷ "(open 1 1 2)" ⇒ "(made 5)"
     ∷ []
 
--- "item 25 answers (opened)"
+-- "item 25 answers (opened)": with #107 "case B opens at item 22"
 abbrev pub listingB : Listing
 listingB = pair ++ session 1 toOpen
 
@@ -104,7 +103,7 @@ listingC = pair ++ dataAtGrant
 abbrev pub listingD : Listing
 listingD = pair ++ session 2 toOpen ++ dataAtGrant
 
--- "Data at wire before any row, received after all: lost 5": item 3 at wire, item 30 at in
+-- "Data at wire before any row, received after all: lost 5": item 3 at wire, item 26 at up
 abbrev pub listingE : Listing
 listingE =
     pair
@@ -113,17 +112,16 @@ listingE =
     ∷ "(step 1 10)" ⇒ "(made 11)" ∷ "(step 1 11)" ⇒ "(made 12)" ∷ "(step 1 12)" ⇒ "(made 13)" ∷ "(step 1 13)" ⇒ "(made 14)"
     ∷ "(step 1 14)" ⇒ "(made 15)" ∷ "(step 1 15)" ⇒ "(made 16)" ∷ "(step 1 16)" ⇒ "(made 17)" ∷ "(step 1 17)" ⇒ "(made 18)"
     ∷ "(step 1 18)" ⇒ "(made 19)" ∷ "(step 1 19)" ⇒ "(made 20)" ∷ "(step 1 20)" ⇒ "(made 21)" ∷ "(step 1 21)" ⇒ "(made 22)"
-    ∷ "(step 1 22)" ⇒ "(made 23)" ∷ "(step 1 23)" ⇒ "(made 24)" ∷ "(step 1 24)" ⇒ "(made 25)" ∷ "(step 1 25)" ⇒ "(made 26)"
-    ∷ "(step 1 26)" ⇒ "(made 27)" ∷ "(step 1 27)" ⇒ "(opened)"
-    ∷ "(step 1 3)" ⇒ "(made 28)" ∷ "(step 1 28)" ⇒ "(made 29)" ∷ "(step 1 29)" ⇒ "(made 30)" ∷ "(step 1 30)" ⇒ "(lost 5)"
+    ∷ "(step 1 22)" ⇒ "(made 23)" ∷ "(step 1 23)" ⇒ "(made 24)" ∷ "(step 1 24)" ⇒ "(opened)"
+    ∷ "(step 1 3)" ⇒ "(made 25)" ∷ "(step 1 25)" ⇒ "(made 26)" ∷ "(step 1 26)" ⇒ "(lost 5)"
     ∷ []
 
--- "As B, but node 1 needs 5 and node 2 lacks it: denied at item 11"
+-- "As B, but node 1 needs 5 and node 2 lacks it: denied at item 11", with #107 "at item 10"
 abbrev pub listingF : Listing
 listingF =
     "(node 1 host (has) (needs 5))" ⇒ "(ok)" ∷ "(node 2 host (has) (needs))" ⇒ "(ok)" ∷ "(route 1 2 2)" ⇒ "(ok)"
     ∷ "(route 2 1 1)" ⇒ "(ok)" ∷ "(open 1 1 2)" ⇒ "(made 1)" ∷ session 1 toAuth
-    ++ "(step 1 11)" ⇒ "(denied)" ∷ []
+    ++ "(step 1 10)" ⇒ "(denied)" ∷ []
 
 -- "items 1 to 32 move, 33 is lost 2"
 abbrev pub listingG : Listing
@@ -162,24 +160,23 @@ listings = listingA ∷ listingB ∷ listingC ∷ listingD ∷ listingE ∷ list
 -- the second establishment of a session whose path has gateways, and one more step;
 abbrev pub secondTunnel : Listing
 secondTunnel =
-    "(step u 22)" ⇒ "(made 23 24)" ∷ "(step u 24)" ⇒ "(made 25 26)" ∷ "(step u 25)" ⇒ "(made 27)" ∷ "(step u 27)" ⇒ "(made 28)"
-    ∷ "(step u 28)" ⇒ "(made 29)" ∷ "(step u 29)" ⇒ "(made 30)" ∷ "(step u 30)" ⇒ "(made 31)" ∷ "(step u 31)" ⇒ "(made 32)"
-    ∷ "(step u 32)" ⇒ "(made 33)" ∷ "(step u 33)" ⇒ "(made 34)" ∷ "(step u 34)" ⇒ "(made 35)" ∷ "(step u 35)" ⇒ "(made 36)"
-    ∷ "(step u 36)" ⇒ "(made 37)" ∷ "(step u 37)" ⇒ "(made 38)" ∷ "(step u 38)" ⇒ "(made 39)" ∷ "(step u 39)" ⇒ "(made 40)"
-    ∷ "(step u 40)" ⇒ "(made 41)" ∷ "(step u 41)" ⇒ "(made 42)"
+    "(step u 20)" ⇒ "(made 21 22)" ∷ "(step u 22)" ⇒ "(made 23 24)" ∷ "(step u 23)" ⇒ "(made 25)" ∷ "(step u 25)" ⇒ "(made 26)"
+    ∷ "(step u 26)" ⇒ "(made 27)" ∷ "(step u 27)" ⇒ "(made 28)" ∷ "(step u 28)" ⇒ "(made 29)" ∷ "(step u 29)" ⇒ "(made 30)"
+    ∷ "(step u 30)" ⇒ "(made 31)" ∷ "(step u 31)" ⇒ "(made 32)" ∷ "(step u 32)" ⇒ "(made 33)" ∷ "(step u 33)" ⇒ "(made 34)"
+    ∷ "(step u 34)" ⇒ "(made 35)" ∷ "(step u 35)" ⇒ "(made 36)" ∷ "(step u 36)" ⇒ "(made 37)" ∷ "(step u 37)" ⇒ "(made 38)"
     ∷ []
 
 -- the first two;
 abbrev pub twoTunnels : Listing
-twoTunnels = toAck ++ "(step u 21)" ⇒ "(made 22)" ∷ secondTunnel
+twoTunnels = toAck ++ "(step u 19)" ⇒ "(made 20)" ∷ secondTunnel
 
 -- and the third, up to its ack
 abbrev pub thirdTunnel : Listing
 thirdTunnel =
-    "(step u 42)" ⇒ "(made 43 44)" ∷ "(step u 44)" ⇒ "(made 45 46)" ∷ "(step u 45)" ⇒ "(made 47)" ∷ "(step u 47)" ⇒ "(made 48)"
+    "(step u 38)" ⇒ "(made 39 40)" ∷ "(step u 40)" ⇒ "(made 41 42)" ∷ "(step u 41)" ⇒ "(made 43)" ∷ "(step u 43)" ⇒ "(made 44)"
+    ∷ "(step u 44)" ⇒ "(made 45)" ∷ "(step u 45)" ⇒ "(made 46)" ∷ "(step u 46)" ⇒ "(made 47)" ∷ "(step u 47)" ⇒ "(made 48)"
     ∷ "(step u 48)" ⇒ "(made 49)" ∷ "(step u 49)" ⇒ "(made 50)" ∷ "(step u 50)" ⇒ "(made 51)" ∷ "(step u 51)" ⇒ "(made 52)"
-    ∷ "(step u 52)" ⇒ "(made 53)" ∷ "(step u 53)" ⇒ "(made 54)" ∷ "(step u 54)" ⇒ "(made 55)" ∷ "(step u 55)" ⇒ "(made 56)"
-    ∷ "(step u 56)" ⇒ "(made 57)" ∷ "(step u 57)" ⇒ "(made 58)" ∷ "(step u 58)" ⇒ "(made 59)" ∷ "(step u 59)" ⇒ "(made 60)"
+    ∷ "(step u 52)" ⇒ "(made 53)" ∷ "(step u 53)" ⇒ "(made 54)"
     ∷ []
 
 -- data goes through one tunnel to a gateway, and through the next to the server
@@ -188,11 +185,11 @@ throughGateway =
     "(node 1 host (has 1 2) (needs 3))" ⇒ "(ok)" ∷ "(node 2 gate (has 3 63) (needs 2))" ⇒ "(ok)" ∷ "(node 3 host (has 0 2) (needs 63))" ⇒ "(ok)"
     ∷ "(route 1 2 2)" ⇒ "(ok)" ∷ "(route 1 3 2)" ⇒ "(ok)" ∷ "(route 2 1 1)" ⇒ "(ok)" ∷ "(route 2 3 3)" ⇒ "(ok)"
     ∷ "(route 3 2 2)" ⇒ "(ok)" ∷ "(route 3 1 2)" ⇒ "(ok)" ∷ "(open 1 1 3)" ⇒ "(made 1)" ∷ session 1 twoTunnels
-    ++ "(step 1 42)" ⇒ "(made 43)" ∷ "(step 1 43)" ⇒ "(made 44)" ∷ "(step 1 44)" ⇒ "(made 45)" ∷ "(step 1 45)" ⇒ "(made 46)"
-    ∷ "(step 1 46)" ⇒ "(made 47)" ∷ "(step 1 47)" ⇒ "(made 48)" ∷ "(step 1 48)" ⇒ "(made 49)" ∷ "(step 1 49)" ⇒ "(made 50)"
-    ∷ "(step 1 50)" ⇒ "(opened)" ∷ "(send 1 0 77)" ⇒ "(made 51)" ∷ "(step 1 51)" ⇒ "(made 52)" ∷ "(step 1 52)" ⇒ "(made 53)"
-    ∷ "(step 1 53)" ⇒ "(made 54)" ∷ "(step 1 54)" ⇒ "(made 55)" ∷ "(step 1 55)" ⇒ "(made 56)" ∷ "(step 1 56)" ⇒ "(made 57)"
-    ∷ "(step 1 57)" ⇒ "(made 58)" ∷ "(step 1 58)" ⇒ "(made 59)" ∷ "(step 1 59)" ⇒ "(made 60)" ∷ "(step 1 60)" ⇒ "(delivered 77)"
+    ++ "(step 1 38)" ⇒ "(made 39)" ∷ "(step 1 39)" ⇒ "(made 40)" ∷ "(step 1 40)" ⇒ "(made 41)" ∷ "(step 1 41)" ⇒ "(made 42)"
+    ∷ "(step 1 42)" ⇒ "(made 43)" ∷ "(step 1 43)" ⇒ "(made 44)" ∷ "(step 1 44)" ⇒ "(opened)"
+    ∷ "(send 1 0 77)" ⇒ "(made 45)"
+    ∷ "(step 1 45)" ⇒ "(made 46)" ∷ "(step 1 46)" ⇒ "(made 47)" ∷ "(step 1 47)" ⇒ "(made 48)" ∷ "(step 1 48)" ⇒ "(made 49)"
+    ∷ "(step 1 49)" ⇒ "(made 50)" ∷ "(step 1 50)" ⇒ "(made 51)" ∷ "(step 1 51)" ⇒ "(made 52)" ∷ "(step 1 52)" ⇒ "(delivered 77)"
     ∷ []
 
 -- routes that send a Disc from 1 to 4 back and forth between gateways 2 and 3
@@ -209,41 +206,38 @@ abbrev pub newestOfTwoRows : Listing
 newestOfTwoRows =
     circle ++ "(open 1 1 4)" ⇒ "(made 1)" ∷ session 1 twoTunnels
     ++ session 1 thirdTunnel
-    ++ "(send 1 0 77)" ⇒ "(made 61)" ∷ "(step 1 61)" ⇒ "(made 62)" ∷ "(step 1 62)" ⇒ "(made 63)" ∷ "(step 1 63)" ⇒ "(made 64)"
-    ∷ "(step 1 64)" ⇒ "(made 65)" ∷ "(step 1 65)" ⇒ "(lost 5)"
+    ++ "(send 1 0 77)" ⇒ "(made 55)" ∷ "(step 1 55)" ⇒ "(made 56)" ∷ "(step 1 56)" ⇒ "(made 57)" ∷ "(step 1 57)" ⇒ "(made 58)"
+    ∷ "(step 1 58)" ⇒ "(lost 5)"
     ∷ []
 
 -- "with 8 establishments begun, lost 6": on the circle the Disc comes to a ninth
 abbrev pub exhausted : Listing
 exhausted =
     circle ++ "(open 1 1 4)" ⇒ "(made 1)" ∷ session 1 twoTunnels ++ session 1 thirdTunnel
-    ++ "(step 1 60)" ⇒ "(made 61)" ∷ "(step 1 61)" ⇒ "(made 62)" ∷ "(step 1 62)" ⇒ "(made 63 64)" ∷ "(step 1 64)" ⇒ "(made 65 66)"
-    ∷ "(step 1 65)" ⇒ "(made 67)" ∷ "(step 1 67)" ⇒ "(made 68)" ∷ "(step 1 68)" ⇒ "(made 69)" ∷ "(step 1 69)" ⇒ "(made 70)"
-    ∷ "(step 1 70)" ⇒ "(made 71)" ∷ "(step 1 71)" ⇒ "(made 72)" ∷ "(step 1 72)" ⇒ "(made 73)" ∷ "(step 1 73)" ⇒ "(made 74)"
-    ∷ "(step 1 74)" ⇒ "(made 75)" ∷ "(step 1 75)" ⇒ "(made 76)" ∷ "(step 1 76)" ⇒ "(made 77)" ∷ "(step 1 77)" ⇒ "(made 78)"
-    ∷ "(step 1 78)" ⇒ "(made 79)" ∷ "(step 1 79)" ⇒ "(made 80)" ∷ "(step 1 80)" ⇒ "(made 81)" ∷ "(step 1 81)" ⇒ "(made 82)"
-    ∷ "(step 1 82)" ⇒ "(made 83 84)" ∷ "(step 1 84)" ⇒ "(made 85 86)" ∷ "(step 1 85)" ⇒ "(made 87)" ∷ "(step 1 87)" ⇒ "(made 88)"
-    ∷ "(step 1 88)" ⇒ "(made 89)" ∷ "(step 1 89)" ⇒ "(made 90)" ∷ "(step 1 90)" ⇒ "(made 91)" ∷ "(step 1 91)" ⇒ "(made 92)"
-    ∷ "(step 1 92)" ⇒ "(made 93)" ∷ "(step 1 93)" ⇒ "(made 94)" ∷ "(step 1 94)" ⇒ "(made 95)" ∷ "(step 1 95)" ⇒ "(made 96)"
-    ∷ "(step 1 96)" ⇒ "(made 97)" ∷ "(step 1 97)" ⇒ "(made 98)" ∷ "(step 1 98)" ⇒ "(made 99)" ∷ "(step 1 99)" ⇒ "(made 100)"
-    ∷ "(step 1 100)" ⇒ "(made 101)" ∷ "(step 1 101)" ⇒ "(made 102)" ∷ "(step 1 102)" ⇒ "(made 103 104)" ∷ "(step 1 104)" ⇒ "(made 105 106)"
-    ∷ "(step 1 105)" ⇒ "(made 107)" ∷ "(step 1 107)" ⇒ "(made 108)" ∷ "(step 1 108)" ⇒ "(made 109)" ∷ "(step 1 109)" ⇒ "(made 110)"
-    ∷ "(step 1 110)" ⇒ "(made 111)" ∷ "(step 1 111)" ⇒ "(made 112)" ∷ "(step 1 112)" ⇒ "(made 113)" ∷ "(step 1 113)" ⇒ "(made 114)"
-    ∷ "(step 1 114)" ⇒ "(made 115)" ∷ "(step 1 115)" ⇒ "(made 116)" ∷ "(step 1 116)" ⇒ "(made 117)" ∷ "(step 1 117)" ⇒ "(made 118)"
+    ++ "(step 1 54)" ⇒ "(made 55)" ∷ "(step 1 55)" ⇒ "(made 56)" ∷ "(step 1 56)" ⇒ "(made 57 58)" ∷ "(step 1 58)" ⇒ "(made 59 60)"
+    ∷ "(step 1 59)" ⇒ "(made 61)" ∷ "(step 1 61)" ⇒ "(made 62)" ∷ "(step 1 62)" ⇒ "(made 63)" ∷ "(step 1 63)" ⇒ "(made 64)"
+    ∷ "(step 1 64)" ⇒ "(made 65)" ∷ "(step 1 65)" ⇒ "(made 66)" ∷ "(step 1 66)" ⇒ "(made 67)" ∷ "(step 1 67)" ⇒ "(made 68)"
+    ∷ "(step 1 68)" ⇒ "(made 69)" ∷ "(step 1 69)" ⇒ "(made 70)" ∷ "(step 1 70)" ⇒ "(made 71)" ∷ "(step 1 71)" ⇒ "(made 72)"
+    ∷ "(step 1 72)" ⇒ "(made 73)" ∷ "(step 1 73)" ⇒ "(made 74)" ∷ "(step 1 74)" ⇒ "(made 75 76)" ∷ "(step 1 76)" ⇒ "(made 77 78)"
+    ∷ "(step 1 77)" ⇒ "(made 79)" ∷ "(step 1 79)" ⇒ "(made 80)" ∷ "(step 1 80)" ⇒ "(made 81)" ∷ "(step 1 81)" ⇒ "(made 82)"
+    ∷ "(step 1 82)" ⇒ "(made 83)" ∷ "(step 1 83)" ⇒ "(made 84)" ∷ "(step 1 84)" ⇒ "(made 85)" ∷ "(step 1 85)" ⇒ "(made 86)"
+    ∷ "(step 1 86)" ⇒ "(made 87)" ∷ "(step 1 87)" ⇒ "(made 88)" ∷ "(step 1 88)" ⇒ "(made 89)" ∷ "(step 1 89)" ⇒ "(made 90)"
+    ∷ "(step 1 90)" ⇒ "(made 91)" ∷ "(step 1 91)" ⇒ "(made 92)" ∷ "(step 1 92)" ⇒ "(made 93 94)" ∷ "(step 1 94)" ⇒ "(made 95 96)"
+    ∷ "(step 1 95)" ⇒ "(made 97)" ∷ "(step 1 97)" ⇒ "(made 98)" ∷ "(step 1 98)" ⇒ "(made 99)" ∷ "(step 1 99)" ⇒ "(made 100)"
+    ∷ "(step 1 100)" ⇒ "(made 101)" ∷ "(step 1 101)" ⇒ "(made 102)" ∷ "(step 1 102)" ⇒ "(made 103)" ∷ "(step 1 103)" ⇒ "(made 104)"
+    ∷ "(step 1 104)" ⇒ "(made 105)" ∷ "(step 1 105)" ⇒ "(made 106)" ∷ "(step 1 106)" ⇒ "(made 107)" ∷ "(step 1 107)" ⇒ "(made 108)"
+    ∷ "(step 1 108)" ⇒ "(made 109)" ∷ "(step 1 109)" ⇒ "(made 110)" ∷ "(step 1 110)" ⇒ "(made 111 112)" ∷ "(step 1 112)" ⇒ "(made 113 114)"
+    ∷ "(step 1 113)" ⇒ "(made 115)" ∷ "(step 1 115)" ⇒ "(made 116)" ∷ "(step 1 116)" ⇒ "(made 117)" ∷ "(step 1 117)" ⇒ "(made 118)"
     ∷ "(step 1 118)" ⇒ "(made 119)" ∷ "(step 1 119)" ⇒ "(made 120)" ∷ "(step 1 120)" ⇒ "(made 121)" ∷ "(step 1 121)" ⇒ "(made 122)"
-    ∷ "(step 1 122)" ⇒ "(made 123 124)" ∷ "(step 1 124)" ⇒ "(made 125 126)" ∷ "(step 1 125)" ⇒ "(made 127)" ∷ "(step 1 127)" ⇒ "(made 128)"
-    ∷ "(step 1 128)" ⇒ "(made 129)" ∷ "(step 1 129)" ⇒ "(made 130)" ∷ "(step 1 130)" ⇒ "(made 131)" ∷ "(step 1 131)" ⇒ "(made 132)"
-    ∷ "(step 1 132)" ⇒ "(made 133)" ∷ "(step 1 133)" ⇒ "(made 134)" ∷ "(step 1 134)" ⇒ "(made 135)" ∷ "(step 1 135)" ⇒ "(made 136)"
+    ∷ "(step 1 122)" ⇒ "(made 123)" ∷ "(step 1 123)" ⇒ "(made 124)" ∷ "(step 1 124)" ⇒ "(made 125)" ∷ "(step 1 125)" ⇒ "(made 126)"
+    ∷ "(step 1 126)" ⇒ "(made 127)" ∷ "(step 1 127)" ⇒ "(made 128)" ∷ "(step 1 128)" ⇒ "(made 129 130)" ∷ "(step 1 130)" ⇒ "(made 131 132)"
+    ∷ "(step 1 131)" ⇒ "(made 133)" ∷ "(step 1 133)" ⇒ "(made 134)" ∷ "(step 1 134)" ⇒ "(made 135)" ∷ "(step 1 135)" ⇒ "(made 136)"
     ∷ "(step 1 136)" ⇒ "(made 137)" ∷ "(step 1 137)" ⇒ "(made 138)" ∷ "(step 1 138)" ⇒ "(made 139)" ∷ "(step 1 139)" ⇒ "(made 140)"
-    ∷ "(step 1 140)" ⇒ "(made 141)" ∷ "(step 1 141)" ⇒ "(made 142)" ∷ "(step 1 142)" ⇒ "(made 143 144)" ∷ "(step 1 144)" ⇒ "(made 145 146)"
-    ∷ "(step 1 145)" ⇒ "(made 147)" ∷ "(step 1 147)" ⇒ "(made 148)" ∷ "(step 1 148)" ⇒ "(made 149)" ∷ "(step 1 149)" ⇒ "(made 150)"
-    ∷ "(step 1 150)" ⇒ "(made 151)" ∷ "(step 1 151)" ⇒ "(made 152)" ∷ "(step 1 152)" ⇒ "(made 153)" ∷ "(step 1 153)" ⇒ "(made 154)"
-    ∷ "(step 1 154)" ⇒ "(made 155)" ∷ "(step 1 155)" ⇒ "(made 156)" ∷ "(step 1 156)" ⇒ "(made 157)" ∷ "(step 1 157)" ⇒ "(made 158)"
-    ∷ "(step 1 158)" ⇒ "(made 159)" ∷ "(step 1 159)" ⇒ "(made 160)" ∷ "(step 1 160)" ⇒ "(made 161)" ∷ "(step 1 161)" ⇒ "(made 162)"
-    ∷ "(step 1 162)" ⇒ "(lost 6)"
+    ∷ "(step 1 140)" ⇒ "(made 141)" ∷ "(step 1 141)" ⇒ "(made 142)" ∷ "(step 1 142)" ⇒ "(made 143)" ∷ "(step 1 143)" ⇒ "(made 144)"
+    ∷ "(step 1 144)" ⇒ "(made 145)" ∷ "(step 1 145)" ⇒ "(made 146)" ∷ "(step 1 146)" ⇒ "(lost 6)"
     ∷ []
 
--- a session from 1 to 4 through gateways 2 and 3: its first tunnel, and the Disc that its ack wrote, which is item 22 at node 3
+-- a session from 1 to 4 through gateways 2 and 3: its first tunnel, and the Disc that its ack wrote, which is item 20 at node 3
 abbrev pub firstOfThree : Listing
 firstOfThree =
     "(node 1 host (has) (needs))" ⇒ "(ok)" ∷ "(node 2 gate (has) (needs))" ⇒ "(ok)" ∷ "(node 3 gate (has) (needs))" ⇒ "(ok)" ∷ "(node 4 host (has) (needs))" ⇒ "(ok)"
@@ -251,28 +245,28 @@ firstOfThree =
     ∷ "(route 2 4 3)" ⇒ "(ok)" ∷ "(route 3 2 2)" ⇒ "(ok)" ∷ "(route 3 4 4)" ⇒ "(ok)" ∷ "(route 4 3 3)" ⇒ "(ok)"
     ∷ "(route 4 1 3)" ⇒ "(ok)" ∷ "(route 3 1 2)" ⇒ "(ok)"
     ∷ "(open 1 1 4)" ⇒ "(made 1)" ∷ session 1 toAck
-    ++ "(step 1 21)" ⇒ "(made 22)" ∷ []
+    ++ "(step 1 19)" ⇒ "(made 20)" ∷ []
 
 -- then data in that tunnel
 abbrev pub dataInFirstOfThree : Listing
-dataInFirstOfThree = firstOfThree ++ "(send 1 0 77)" ⇒ "(made 23)" ∷ "(step 1 23)" ⇒ "(made 24)" ∷ "(step 1 24)" ⇒ "(made 25)" ∷ []
+dataInFirstOfThree = firstOfThree ++ "(send 1 0 77)" ⇒ "(made 21)" ∷ "(step 1 21)" ⇒ "(made 22)" ∷ "(step 1 22)" ⇒ "(made 23)" ∷ []
 
 -- or the other two tunnels, and Done back through all three
 abbrev pub threeTunnels : Listing
 threeTunnels =
     firstOfThree ++ session 1 secondTunnel ++ session 1 thirdTunnel
-    ++ "(step 1 60)" ⇒ "(made 61)" ∷ "(step 1 61)" ⇒ "(made 62)" ∷ "(step 1 62)" ⇒ "(made 63)" ∷ "(step 1 63)" ⇒ "(made 64)"
-    ∷ "(step 1 64)" ⇒ "(made 65)" ∷ "(step 1 65)" ⇒ "(made 66)" ∷ "(step 1 66)" ⇒ "(made 67)" ∷ "(step 1 67)" ⇒ "(made 68)"
-    ∷ "(step 1 68)" ⇒ "(made 69)" ∷ "(step 1 69)" ⇒ "(made 70)" ∷ "(step 1 70)" ⇒ "(made 71)" ∷ "(step 1 71)" ⇒ "(made 72)"
-    ∷ "(step 1 72)" ⇒ "(made 73)" ∷ "(step 1 73)" ⇒ "(made 74)" ∷ "(step 1 74)" ⇒ "(made 75)" ∷ "(step 1 75)" ⇒ "(opened)"
+    ++ "(step 1 54)" ⇒ "(made 55)" ∷ "(step 1 55)" ⇒ "(made 56)" ∷ "(step 1 56)" ⇒ "(made 57)" ∷ "(step 1 57)" ⇒ "(made 58)"
+    ∷ "(step 1 58)" ⇒ "(made 59)" ∷ "(step 1 59)" ⇒ "(made 60)" ∷ "(step 1 60)" ⇒ "(made 61)" ∷ "(step 1 61)" ⇒ "(made 62)"
+    ∷ "(step 1 62)" ⇒ "(made 63)" ∷ "(step 1 63)" ⇒ "(made 64)" ∷ "(step 1 64)" ⇒ "(made 65)" ∷ "(step 1 65)" ⇒ "(made 66)"
+    ∷ "(step 1 66)" ⇒ "(opened)"
     ∷ []
 
 -- data from the server, "with 1"
 abbrev pub serverSends : Listing
 serverSends =
     pair ++ session 1 toOpen
-    ++ "(send 1 1 5)" ⇒ "(made 26)" ∷ "(step 1 26)" ⇒ "(made 27)" ∷ "(step 1 27)" ⇒ "(made 28)" ∷ "(step 1 28)" ⇒ "(made 29)"
-    ∷ "(step 1 29)" ⇒ "(made 30)" ∷ "(step 1 30)" ⇒ "(delivered 5)"
+    ++ "(send 1 1 5)" ⇒ "(made 23)" ∷ "(step 1 23)" ⇒ "(made 24)" ∷ "(step 1 24)" ⇒ "(made 25)" ∷ "(step 1 25)" ⇒ "(made 26)"
+    ∷ "(step 1 26)" ⇒ "(delivered 5)"
     ∷ []
 
 -- lost 1 and lost 3
@@ -349,7 +343,19 @@ defaultWayOut =
     ∷ "(step 2 5)" ⇒ "(made 7)" ∷ "(step 2 7)" ⇒ "(lost 3)" ∷ "(route 3 0 1)" ⇒ "(no 5)"
     ∷ []
 
+-- #107: 77 and 78 come bare to node 2 before it has a row. The step of up reads the rows, for the header and for the match at one
+-- moment: 77 is delivered before the initiator's grant, and 78 behind it is lost 5
+abbrev pub rowsAtOneMoment : Listing
+rowsAtOneMoment =
+    pair ++ "(open 1 1 2)" ⇒ "(made 1)" ∷ session 1 toAuth
+    ++ "(send 1 0 77)" ⇒ "(made 11)" ∷ "(step 1 11)" ⇒ "(made 12)" ∷ "(step 1 12)" ⇒ "(made 13)" ∷ "(step 1 13)" ⇒ "(made 14)"
+    ∷ "(send 1 0 78)" ⇒ "(made 15)" ∷ "(step 1 15)" ⇒ "(made 16)" ∷ "(step 1 16)" ⇒ "(made 17)" ∷ "(step 1 17)" ⇒ "(made 18)"
+    ∷ "(step 1 10)" ⇒ "(made 19)" ∷ "(step 1 19)" ⇒ "(made 20)" ∷ "(step 1 20)" ⇒ "(made 21)" ∷ "(step 1 21)" ⇒ "(made 22)"
+    ∷ "(step 1 22)" ⇒ "(made 23)" ∷ "(step 1 23)" ⇒ "(made 24)" ∷ "(step 1 24)" ⇒ "(made 25)"
+    ∷ "(step 1 14)" ⇒ "(delivered 77)" ∷ "(step 1 25)" ⇒ "(made 26)" ∷ "(step 1 18)" ⇒ "(lost 5)"
+    ∷ []
+
 abbrev pub furtherExamples : List Listing
 furtherExamples =
     throughGateway ∷ newestOfTwoRows ∷ exhausted ∷ dataInFirstOfThree ∷ threeTunnels ∷ serverSends ∷ lossesAtAGateway ∷ refusalsInOrder
-    ∷ networkGivenBack ∷ shownInOrder ∷ waitsLeft ∷ defaultWayOut ∷ []
+    ∷ networkGivenBack ∷ shownInOrder ∷ waitsLeft ∷ defaultWayOut ∷ rowsAtOneMoment ∷ []

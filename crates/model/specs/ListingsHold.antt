@@ -96,20 +96,20 @@ abbrev pub header : ℕ → ℕ → ℕ → Header
 header from to spi = Tunnel from to (record { 0 = spi })
 
 abbrev pub row : ℕ → Bool → ℕ → ℕ → ℕ → ℕ → Row
-row a out from to q e = record { node = a; out = out; source = from; destination = to; peer = q; establishment = e }
+row a out from to q e = record { node = a; out = out; source = from; destination = to; peers = record { first = q }; establishment = e }
 
 -- B before its ack is stepped: the ack names its establishment
 abbrev pub beforeAck : Moment
 beforeAck =
     record {
-      calls = take 22 listingB;
+      calls = take 20 listingB;
       sees = record {
         stage = Stage.SettingUp;
         ends = some (1, 2);
-        items = item 3 (Dwait 2) ∷ item 20 (Ack 2 1) ∷ [];
+        items = item 3 (Dwait 2) ∷ item 18 (Ack 2 1) ∷ [];
         rows = row 1 true 1 2 2 1 ∷ row 1 false 2 1 2 1 ∷ row 2 true 2 1 1 1 ∷ row 2 false 1 2 1 1 ∷ [];
         begun = 1;
-        last = 20;
+        last = 18;
       };
     }
 
@@ -123,7 +123,7 @@ endOfB =
         items = [];
         rows = row 1 true 1 2 2 1 ∷ row 1 false 2 1 2 1 ∷ row 2 true 2 1 1 1 ∷ row 2 false 1 2 1 1 ∷ [];
         begun = 1;
-        last = 25;
+        last = 22;
       };
     }
 
@@ -137,23 +137,23 @@ endOfF =
         items = item 3 (Dwait 2) ∷ item 6 (Ewait 2 1) ∷ [];
         rows = [];
         begun = 1;
-        last = 11;
+        last = 10;
       };
     }
 
--- C after step 14: the data is on the wire with its header, which has the SPI of what 2 receives from 1
+-- C after step 13: the data is on the wire with its header, which has the SPI of what 2 receives from 1
 abbrev pub middleOfC : Moment
 middleOfC =
     record {
-      calls = take 17 listingC;
+      calls = take 16 listingC;
       sees = record {
         stage = Stage.SettingUp;
         ends = some (1, 2);
-        items = item 3 (Dwait 2) ∷ item 13 (Out 1 (packet 1 2 (Rep 1) Bare)) ∷ item 6 (Ewait 2 1)
-            ∷ item 15 (Wire 1 (packet 1 2 (Data 77) (header 1 2 288)) 32) ∷ [];
+        items = item 3 (Dwait 2) ∷ item 12 (Out 1 (packet 1 2 (Rep 1) Bare)) ∷ item 6 (Ewait 2 1)
+            ∷ item 14 (Wire 1 (packet 1 2 (Data 77) (header 1 2 288)) 32) ∷ [];
         rows = row 1 true 1 2 2 1 ∷ row 1 false 2 1 2 1 ∷ [];
         begun = 1;
-        last = 15;
+        last = 14;
       };
     }
 
@@ -165,10 +165,10 @@ endOfC =
       sees = record {
         stage = Stage.SettingUp;
         ends = some (1, 2);
-        items = item 3 (Dwait 2) ∷ item 13 (Out 1 (packet 1 2 (Rep 1) Bare)) ∷ item 6 (Ewait 2 1) ∷ [];
+        items = item 3 (Dwait 2) ∷ item 12 (Out 1 (packet 1 2 (Rep 1) Bare)) ∷ item 6 (Ewait 2 1) ∷ [];
         rows = row 1 true 1 2 2 1 ∷ row 1 false 2 1 2 1 ∷ [];
         begun = 1;
-        last = 17;
+        last = 16;
       };
     }
 
@@ -180,10 +180,10 @@ discOfAnAck =
       sees = record {
         stage = Stage.SettingUp;
         ends = some (1, 4);
-        items = item 22 (Wire 3 (packet 1 4 (Disc 2) Bare) 31) ∷ item 25 (Wire 2 (packet 1 4 (Data 77) (header 1 2 288)) 31) ∷ [];
+        items = item 20 (Wire 3 (packet 1 4 (Disc 2) Bare) 31) ∷ item 23 (Wire 2 (packet 1 4 (Data 77) (header 1 2 288)) 31) ∷ [];
         rows = row 1 true 1 4 2 1 ∷ row 1 false 4 1 2 1 ∷ row 2 true 4 1 1 1 ∷ row 2 false 1 4 1 1 ∷ [];
         begun = 1;
-        last = 25;
+        last = 23;
       };
     }
 
@@ -201,7 +201,7 @@ endOfThreeTunnels =
             ∷ row 3 true 1 4 4 3 ∷ row 3 false 4 1 4 3 ∷ row 4 true 4 1 3 3 ∷ row 4 false 1 4 3 3
             ∷ [];
         begun = 3;
-        last = 75;
+        last = 66;
       };
     }
 
@@ -240,10 +240,10 @@ pub record Listings : Type 0 where
   -- what no answer shows: stages, ends, items with their contents, rows in their order of age
   pub views : map (λ m. seenBehind (m .calls)) moments ≡ map (λ m. m .sees) moments
   -- #103's count behind A to I: C's steps of Data are not in it, A's second open begins it anew, H's close and session 2 leave it
-  pub steps : map stepsBehind listings ≡ 0 ∷ 23 ∷ 10 ∷ 10 ∷ 23 ∷ 9 ∷ 33 ∷ 23 ∷ 0 ∷ []
+  pub steps : map stepsBehind listings ≡ 0 ∷ 20 ∷ 9 ∷ 9 ∷ 20 ∷ 8 ∷ 33 ∷ 20 ∷ 0 ∷ []
   -- and before that open, with three tunnels, and where only waits and Data are left: refused steps are not in it
-  pub furtherSteps : map stepsBehind (take 10 listingA ∷ threeTunnels ∷ waitsLeft ∷ []) ≡ 2 ∷ 69 ∷ 5 ∷ []
-  -- #103's rounds: in 23 of them, with nothing called between, B's set-up comes from its open to its end
-  pub rounds : view (afterRounds 1 (after fresh (map callOf (take 5 listingB))) (replicate 23 [])) 1 ≡ endOfB .sees
+  pub furtherSteps : map stepsBehind (take 10 listingA ∷ threeTunnels ∷ waitsLeft ∷ []) ≡ 2 ∷ 60 ∷ 5 ∷ []
+  -- #103's rounds: in 20 of them, with nothing called between, B's set-up comes from its open to its end
+  pub rounds : view (afterRounds 1 (after fresh (map callOf (take 5 listingB))) (replicate 20 [])) 1 ≡ endOfB .sees
   -- #106's joins of small files
   pub joins : JoinListings

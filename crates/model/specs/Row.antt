@@ -9,8 +9,7 @@ use Rattle.calculus.specs.declared.number.Spi.{Spi}
 use Rattle.calculus.specs.declared.packet.Payload.{Payload}
 use Rattle.calculus.specs.declared.packet.Payload.the-variants.{Req, Rep, Disc, Done, Data}
 use Rattle.calculus.specs.declared.packet.Packet.{Packet}
-use Rattle.calculus.specs.declared.packet.Via.{Via}
-use Rattle.calculus.specs.declared.packet.Via.the-variants.{Untunnelled, Peer}
+use Rattle.calculus.specs.declared.session.Peers.{Peers}
 use Rattle.calculus.specs.declared.session.Row.{Row}
 use Rattle.calculus.specs.declared.state.Part.{Part}
 use Rattle.model.specs.Lists.{fold, tally}
@@ -19,12 +18,24 @@ use Rattle.model.specs.Lists.{fold, tally}
 abbrev pub held : Part → List Row
 held t = take (t .session .rows) (t .rows)
 
+-- ---- peers
+
+abbrev pub noPeers : Peers
+noPeers = record { first = 0 }
+
+-- q, which is a node
+abbrev pub onePeer : ℕ → Peers
+onePeer q = record { first = q }
+
+abbrev pub samePeers : Peers → Peers → Bool
+samePeers x y = eqb (x .first) (y .first)
+
 -- an out row and an in row at a, with the filter (from, to), peer q, of establishment e
 abbrev pub outRow : ℕ → ℕ → ℕ → ℕ → ℕ → Row
-outRow a from to q e = record { node = a; out = true; source = from; destination = to; peer = q; establishment = e }
+outRow a from to q e = record { node = a; out = true; source = from; destination = to; peers = onePeer q; establishment = e }
 
 abbrev pub inRow : ℕ → ℕ → ℕ → ℕ → ℕ → Row
-inRow a from to q e = record { node = a; out = false; source = from; destination = to; peer = q; establishment = e }
+inRow a from to q e = record { node = a; out = false; source = from; destination = to; peers = onePeer q; establishment = e }
 
 -- ---- match
 
@@ -51,12 +62,12 @@ fits out a p r =
     && eqb (r .destination) (p .destination)
     && not (skips (p .payload) (r .establishment))
 
-abbrev pub newer : Bool → ℕ → Packet → Via → Row → Via
-newer out a p best r = cond (fits out a p r) (Peer (r .peer)) best
+abbrev pub newer : Bool → ℕ → Packet → Peers → Row → Peers
+newer out a p best r = cond (fits out a p r) (r .peers) best
 
--- match: the peer of the newest row that fits, the rows being in order of age
-abbrev pub newest : List Row → Bool → ℕ → Packet → Via
-newest rows out a p = fold (newer out a p) Untunnelled rows
+-- match: the peers of the newest row that fits, the rows being in order of age; none where no row fits
+abbrev pub newest : List Row → Bool → ℕ → Packet → Peers
+newest rows out a p = fold (newer out a p) noPeers rows
 
 -- ---- the association that a row names
 
@@ -66,7 +77,7 @@ sameAssociation o b s out a q = sameWay o out && (eqb b a && eqb s q)
 
 -- "A row at a with peer q names In(a, q) or Out(a, q), by its direction."
 abbrev pub names : Bool → ℕ → ℕ → Row → Bool
-names out a q r = sameAssociation (r .out) (r .node) (r .peer) out a q
+names out a q r = sameAssociation (r .out) (r .node) (r .peers .first) out a q
 
 -- the SPI of In(a, q), or of Out(a, q)
 abbrev pub spiOf : Bool → ℕ → ℕ → Spi
@@ -110,13 +121,13 @@ stands l out a q = ltb 0 (usersOf l out a q)
 
 -- the association that the row names stands
 abbrev pub rowStands : List ℕ → Row → Bool
-rowStands l r = stands l (r .out) (r .node) (r .peer)
+rowStands l r = stands l (r .out) (r .node) (r .peers .first)
 
 -- the users of the association that the row names, changed by f
 unfoldable pub withUsers : (ℕ → ℕ) → List ℕ → Row → List ℕ
 withUsers f l r =
-    let at = usersPlace (r .out) (r .node) (r .peer) in
-    cond (areNodes (r .node) (r .peer)) (set l at (f (getD l at 0))) l
+    let at = usersPlace (r .out) (r .node) (r .peers .first) in
+    cond (areNodes (r .node) (r .peers .first)) (set l at (f (getD l at 0))) l
 
 -- "a row added .. raises them by one"; the table holds 65,535 at most
 abbrev pub oneMore : ℕ → ℕ

@@ -1,4 +1,4 @@
--- The eight rules of a step, each a function of what it reads that gives an effect. Assumes nothing.
+-- The seven rules of a step, each a function of what it reads that gives an effect. Assumes nothing.
 use Prim.Native.Nat.{ℕ, _+_, _-_}
 use mathlib.Core.Bool.{Bool, true, false, cond, not, _&&_, _||_}
 use mathlib.Core.List.{List}
@@ -21,17 +21,16 @@ use Rattle.calculus.specs.declared.packet.Header.the-variants.{Bare, Tunnel}
 use Rattle.calculus.specs.declared.packet.Packet.{Packet}
 use Rattle.calculus.specs.declared.packet.Side.{Side}
 use Rattle.calculus.specs.declared.packet.Side.the-variants.{Responder, Initiator}
-use Rattle.calculus.specs.declared.packet.Via.{Via}
-use Rattle.calculus.specs.declared.packet.Via.the-variants.{Untunnelled, Peer}
 use Rattle.calculus.specs.declared.packet.Item.{Item}
-use Rattle.calculus.specs.declared.packet.Item.the-variants.{Free, Wire, Out, Up, In, Est, Auth, Grant, Ack, Dwait, Ewait}
+use Rattle.calculus.specs.declared.packet.Item.the-variants.{Free, Wire, Out, Up, Est, Auth, Grant, Ack, Dwait, Ewait}
+use Rattle.calculus.specs.declared.session.Peers.{Peers}
 use Rattle.calculus.specs.declared.session.Row.{Row}
 use Rattle.calculus.specs.declared.session.Session.{Session}
 use Rattle.calculus.specs.declared.state.Part.{Part}
 use Rattle.calculus.specs.declared.network.Network.{Network}
 use Rattle.model.specs.Network.{isGateway, nextHop, hasAllNeeded}
 use Rattle.model.specs.Packet.{hopLimit, bare, under, target, isBare, isDataOrDone}
-use Rattle.model.specs.Row.{held, inRow, outRow, newest, admits, spiOf}
+use Rattle.model.specs.Row.{noPeers, onePeer, samePeers, held, inRow, outRow, newest, admits, spiOf}
 
 -- ---- effects
 
@@ -112,9 +111,8 @@ wireRule gateway look s a p h =
 -- ---- out
 
 -- the header (a, peer, SPI) of the matching out row, or none
-abbrev pub headerTo : ℕ → Via → Header
-headerTo a Untunnelled = Bare
-headerTo a (Peer q) = Tunnel a q (spiOf true a q)
+abbrev pub headerTo : ℕ → Peers → Header
+headerTo a x = let q = x .first in cond (eqb q 0) Bare (Tunnel a q (spiOf true a q))
 
 -- out(a, packet)
 unfoldable pub outRule : List Row → ℕ → Packet → Effect
@@ -122,32 +120,15 @@ outRule rows a p = writes (Wire a (under p (headerTo a (newest rows true a p))) 
 
 -- ---- up
 
--- a header from q, and In(a, q) stands
-abbrev pub headerStands : (ℕ → ℕ → Bool) → ℕ → Header → Bool
-headerStands standing a Bare = false
-headerStands standing a (Tunnel q to i) = standing a q
+-- what the header is from, none where there is no header
+abbrev pub stripped : Header → Peers
+stripped Bare = noPeers
+stripped (Tunnel q to i) = onePeer q
 
-abbrev pub upWith : Header → Bool → List Row → ℕ → Packet → Effect
-upWith Bare inStands rows a p = writes (In a p Untunnelled)
-upWith (Tunnel q to i) inStands rows a p =
-    cond (inStands && admits rows a q) (writes (In a (under p Bare) (Peer q))) (lost NoTunnel)
-
--- up(a, packet): "if In(a, q) stands and an in row of this session at a has peer q, strip it"
-unfoldable pub upRule : Bool → List Row → ℕ → Packet → Effect
-upRule inStands rows a p = upWith (p .header) inStands rows a p
-
--- ---- in
-
-abbrev pub sameVia : Via → Via → Bool
-sameVia Untunnelled Untunnelled = true
-sameVia Untunnelled (Peer q) = false
-sameVia (Peer q) Untunnelled = false
-sameVia (Peer q) (Peer r) = eqb q r
-
--- "the matching in row's peer must be q, or with no row q must be none". With no row no list of calls comes to a q: the rows that
--- send a packet into a tunnel and those that match it at the tunnel's end come with one establishment
-abbrev pub agrees : List Row → ℕ → Packet → Via → Bool
-agrees rows a p q = sameVia (newest rows false a p) q
+-- "Header from q: if In(a, q) stands and an in row of this session at a has peer q"
+abbrev pub admitted : (ℕ → ℕ → Bool) → List Row → ℕ → Header → Bool
+admitted standing rows a Bare = true
+admitted standing rows a (Tunnel q to i) = standing a q && admits rows a q
 
 -- a packet from b, received at its destination a
 abbrev pub received : ℕ → ℕ → Payload → Effect
@@ -157,12 +138,16 @@ received a b (Disc p) = neverMet
 received a b Done = only Opened
 received a b (Data tag) = only (Delivered tag)
 
--- in(a, packet, q)
-unfoldable pub inRule : List Row → ℕ → Packet → Via → Effect
-inRule rows a p q =
-    cond (not (agrees rows a p q)) (lost WrongTunnel)
-    (cond (not (eqb (p .destination) a)) (writes (Out a p))
-    (received a (p .source) (p .payload)))
+-- up(a, packet): "its header test and then what in did, under one number". "The matching in row's peer must be q, or with no row q must
+-- be none": with no row no list of calls comes to a q, since the rows that send a packet into a tunnel and those that match it at the
+-- tunnel's end come with one establishment
+unfoldable pub upRule : (ℕ → ℕ → Bool) → List Row → ℕ → Packet → Effect
+upRule standing rows a p =
+    let inner = under p Bare in
+    cond (not (admitted standing rows a (p .header))) (lost NoTunnel)
+    (cond (not (samePeers (newest rows false a inner) (stripped (p .header)))) (lost WrongTunnel)
+    (cond (not (eqb (p .destination) a)) (writes (Out a inner))
+    (received a (p .source) (p .payload))))
 
 -- ---- est, auth
 
@@ -201,8 +186,7 @@ unfoldable pub rule : Network → (ℕ → ℕ → Bool) → Part → Item → E
 rule n standing t Free = neverMet
 rule n standing t (Wire a p h) = wireRule (isGateway n a) (nextHop n a) (t .session) a p h
 rule n standing t (Out a p) = outRule (held t) a p
-rule n standing t (Up a p) = upRule (headerStands standing a (p .header)) (held t) a p
-rule n standing t (In a p q) = inRule (held t) a p q
+rule n standing t (Up a p) = upRule standing (held t) a p
 rule n standing t (Est a b e) = estRule a b e
 rule n standing t (Auth a q e side) = authRule (hasAllNeeded n a q) a q e side
 rule n standing t (Grant a q e side) = grantRule (t .session) a q e side

@@ -15,7 +15,7 @@ use Rattle.calculus.specs.declared.network.NextHop.the-variants.{Exact, Default
 use Rattle.calculus.specs.declared.packet.Payload.{Payload}
 use Rattle.calculus.specs.declared.packet.Payload.the-variants.{Req, Rep, Disc, Done, Data}
 use Rattle.calculus.specs.declared.packet.Item.{Item}
-use Rattle.calculus.specs.declared.packet.Item.the-variants.{Free, Wire, Out, Up, In, Est, Auth, Grant, Ack, Dwait, Ewait}
+use Rattle.calculus.specs.declared.packet.Item.the-variants.{Free, Wire, Out, Up, Est, Auth, Grant, Ack, Dwait, Ewait}
 use Rattle.calculus.specs.declared.packet.Slot.{Slot}
 use Rattle.calculus.specs.declared.state.Part.{Part}
 use Rattle.calculus.specs.declared.state.State.{State}
@@ -42,7 +42,6 @@ isGrant Free = false
 isGrant (Wire a p h) = false
 isGrant (Out a p) = false
 isGrant (Up a p) = false
-isGrant (In a p q) = false
 isGrant (Est a b e) = false
 isGrant (Auth a q e side) = false
 isGrant (Grant a q e side) = true
@@ -63,7 +62,6 @@ isDiscOffWire Free = false
 isDiscOffWire (Wire a p h) = false
 isDiscOffWire (Out a p) = isDisc (p .payload)
 isDiscOffWire (Up a p) = isDisc (p .payload)
-isDiscOffWire (In a p q) = isDisc (p .payload)
 isDiscOffWire (Est a b e) = false
 isDiscOffWire (Auth a q e side) = false
 isDiscOffWire (Grant a q e side) = false
@@ -85,7 +83,6 @@ waitOf Free = NoWait
 waitOf (Wire a p h) = waitOfPacket (p .destination) (p .payload)
 waitOf (Out a p) = waitOfPacket (p .destination) (p .payload)
 waitOf (Up a p) = waitOfPacket (p .destination) (p .payload)
-waitOf (In a p q) = waitOfPacket (p .destination) (p .payload)
 waitOf (Est a b e) = NoWait
 waitOf (Auth a q e side) = NoWait
 waitOf (Grant a q e side) = NoWait
@@ -105,7 +102,6 @@ hopsOf Free = 0
 hopsOf (Wire a p h) = h
 hopsOf (Out a p) = 0
 hopsOf (Up a p) = 0
-hopsOf (In a p q) = 0
 hopsOf (Est a b e) = 0
 hopsOf (Auth a q e side) = 0
 hopsOf (Grant a q e side) = 0
@@ -164,7 +160,7 @@ pub record Holds (s : State) (t : Part) : Type 0 where
   pub rowPlaces : length (t .rows) ≡ 32
   pub rows : t .session .rows + 2 * howManyItems isGrant (t .items) ≤ 32
   -- every row names an association of two nodes
-  pub rowNodes : All (λ r. areNodes (r .node) (r .peer) ≡ true) (held t)
+  pub rowNodes : All (λ r. areNodes (r .node) (r .peers .first) ≡ true) (held t)
   -- "with 8 establishments begun, lost 6"
   pub begun : t .session .begun ≤ 8
   -- no packet on a wire has more than the 32 hops that it started with

@@ -26,6 +26,7 @@ use Rattle.calculus.specs.declared.state.State.{State}
 use Rattle.model.specs.Lists.{place}
 use Rattle.model.specs.Network.{noNode}
 use Rattle.model.specs.Item.{vacant, isThatWait}
+use Rattle.model.specs.Row.{noPeers}
 
 -- ---- fresh
 
@@ -33,7 +34,7 @@ abbrev pub blankSlot : Slot
 blankSlot = record { number = record { 0 = 0 }; item = Free }
 
 abbrev pub blankRow : Row
-blankRow = record { node = 0; out = false; source = 0; destination = 0; peer = 0; establishment = 0 }
+blankRow = record { node = 0; out = false; source = 0; destination = 0; peers = noPeers; establishment = 0 }
 
 abbrev pub blankSession : Session
 blankSession = record { stage = Stage.Unused; client = 0; server = 0; begun = 0; rows = 0; last = record { 0 = 0 } }

@@ -29,15 +29,15 @@ use Rattle.model.specs.SetUp.{isSetUpItem, itemAt}
 abbrev pub wireSteps : ℕ
 wireSteps = hopLimit + 1
 
--- a packet's trip, bare or through one tunnel: out, wire, up, in
+-- a packet's trip, bare or through one tunnel: out, wire, up
 abbrev pub tripSteps : ℕ
-tripSteps = 1 + wireSteps + 1 + 1
+tripSteps = 1 + wireSteps + 1
 
 -- the Disc, est, the Req, the responder's auth and grant, the Rep, the initiator's auth and grant, ack
 abbrev pub establishmentSteps : ℕ
 establishmentSteps = wireSteps + 1 + tripSteps + 1 + 1 + tripSteps + 1 + 1 + 1
 
--- "8 establishments of 111 steps and a Done through 8 tunnels of 36". Instead of the Done one more Disc can come, which takes fewer
+-- "8 establishments of 111 steps and a Done through 8 tunnels of 36", which #107 makes 109 and 35. Instead of the Done one more Disc can come, which takes fewer
 abbrev pub ceiling : ℕ
 ceiling = establishmentLimit * establishmentSteps + establishmentLimit * tripSteps
 
@@ -110,7 +110,7 @@ opens u c = formOpens u (read (c .line))
 
 -- of session u after the calls cs
 pub record Terminates (cs : List Call) (u : ℕ) : Type 0 where
-  -- "At most 1,176 of them are ever accepted, in any order and mixed with anything of others"
+  -- "At most 1,176 of them are ever accepted, in any order and mixed with anything of others", which #107 makes 1,152
   pub bounded : setUpSteps u fresh 0 cs ≤ ceiling
   -- "Unless the session's numbers are spent, any pending item that is neither a wait nor Data can be stepped": its step call is not
   -- refused
@@ -125,6 +125,6 @@ pub record Terminates (cs : List Call) (u : ℕ) : Type 0 where
       → Settled (load (afterRounds u (after fresh cs) rounds) u)
 
 pub record Termination : Type 0 where
-  pub figures : (tripSteps ≡ 36) × (establishmentSteps ≡ 111) × (ceiling ≡ 1176)
+  pub figures : (tripSteps ≡ 35) × (establishmentSteps ≡ 109) × (ceiling ≡ 1152)
   -- after any list of calls, node and route calls anywhere in it
   pub holds : (cs : List Call) (u : ℕ) → isSession u ≡ true → Terminates cs u
