@@ -8,8 +8,8 @@ const MOST_ESTABLISHMENTS: u64 = 8;
 
 /// The most steps that a packet takes on the wire: one at each count of hops left, from all to none.
 const WIRE_STEPS: u64 = HOPS + 1;
-/// The most that it takes from one end of a tunnel to the other, or bare: out, on the wire, up, in.
-const WAY_STEPS: u64 = 1 + WIRE_STEPS + 1 + 1;
+/// The most that it takes from one end of a tunnel to the other, or bare: out, on the wire, up.
+const WAY_STEPS: u64 = 1 + WIRE_STEPS + 1;
 /// Disc on the wire, est, Req, auth, grant, Rep, auth, grant, ack.
 const ESTABLISHMENT_STEPS: u64 = WIRE_STEPS + 1 + WAY_STEPS + 1 + 1 + WAY_STEPS + 1 + 1 + 1;
 /// The ceiling of a set-up's steps (#103): all the establishments, and a Done back through their tunnels.
@@ -60,7 +60,6 @@ pub enum Item {
     Wire { at: u64, packet: Packet, hops: u64 },
     Out { at: u64, packet: Packet },
     Up { at: u64, packet: Packet },
-    In { at: u64, packet: Packet, via: Option<u64> },
     Est { at: u64, peer: u64, establishment: u64 },
     Auth { at: u64, peer: u64, establishment: u64, side: Side },
     Grant { at: u64, peer: u64, establishment: u64, side: Side },
@@ -76,10 +75,7 @@ impl Item {
 
     pub fn holds_data(&self) -> bool {
         match self {
-            Item::Wire { packet, .. }
-            | Item::Out { packet, .. }
-            | Item::Up { packet, .. }
-            | Item::In { packet, .. } => {
+            Item::Wire { packet, .. } | Item::Out { packet, .. } | Item::Up { packet, .. } => {
                 matches!(packet.payload, Payload::Data(_))
             }
             _ => false,
@@ -170,7 +166,6 @@ impl Session {
             Item::Wire { at, packet, hops } => self.wire(at, packet, hops, network),
             Item::Out { at, packet } => self.out(at, packet),
             Item::Up { at, packet } => self.up(at, packet),
-            Item::In { at, packet, via } => self.receive(at, packet, via),
             Item::Est { at, peer, establishment } => Outcome::Made(vec![
                 Item::Out { at, packet: Packet::bare(at, peer, Payload::Req(establishment)) },
                 Item::Ewait { at, establishment },
@@ -227,14 +222,15 @@ impl Session {
         made(Item::Wire { at, packet: Packet { header, ..packet }, hops: HOPS })
     }
 
-    /// A row of this session is itself a user of its association, so the association of such a row stands.
-    fn up(&self, at: u64, packet: Packet) -> Outcome {
+    /// Lost 4 is tested before lost 5 (#107). A row of this session is itself a user of its association, so the
+    /// association of such a row stands.
+    fn up(&mut self, at: u64, packet: Packet) -> Outcome {
         let Some(header) = packet.header else {
-            return made(Item::In { at, packet, via: None });
+            return self.receive(at, packet, None);
         };
         let association = Association { node: at, direction: Direction::In, peer: header.from };
         if self.rows.iter().any(|row| row.association == association) {
-            made(Item::In { at, packet: Packet { header: None, ..packet }, via: Some(header.from) })
+            self.receive(at, Packet { header: None, ..packet }, Some(header.from))
         } else {
             Outcome::Lost(4)
         }

@@ -1,5 +1,5 @@
-//! A second implementation of document 01 and requests #101 to #104 and #106 of document 02, written from the documents
-//! alone, and what the tests share.
+//! A second implementation of document 01 and requests #101 to #104, #106 and #107 of document 02, written from the
+//! documents alone, and what the tests share.
 
 pub mod calculus;
 pub mod compare;

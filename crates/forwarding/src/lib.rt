@@ -1,5 +1,4 @@
-// The rules that move a packet: wire, out, up and in.
-pub mod enter;
+// The rules that move a packet: wire, out and up.
 pub mod out;
 pub mod up;
 pub mod wire;

@@ -1,48 +1,101 @@
 // The rule up.
 use calculus::answer::Loss;
 use calculus::effect::Effect;
+use calculus::effect::Outcome;
+use calculus::effect::Wait;
 use calculus::packet::Header;
 use calculus::packet::Item;
 use calculus::packet::Packet;
-use calculus::packet::Via;
+use calculus::packet::Payload;
+use calculus::packet::Side;
+use calculus::session::Peers;
 use calculus::session::Row;
 use effects::effect::lost;
+use effects::effect::only;
 use effects::effect::writes;
+use effects::effect::writes_for;
 use items::packet::under;
+use lookups::users::stands;
 use rows::row::admits;
+use rows::row::newest;
 ghost use mathlib.Core.Path.{_≡_};
-ghost use mathlib.Core.Bool.{_&&_};
+ghost use mathlib.Core.Bool.{false};
 ghost use lib.ListN.{take};
 ghost use Rattle.model.specs.Row as row;
 ghost use Rattle.model.specs.Rules as spec;
 
-// Whether a header from `q` is let in at `a`.
-fn lets_in(stands: bool, rows: [Row; 32], held: u8, a: u8, q: u8) -> bool
-    ensures { λ r. ⌜ r ≡ stands && row.admits (take held rows) a q ⌝ }
+// What the header is from; none where there is no header.
+fn stripped(h: Header) -> Peers
+    ensures { λ r. ⌜ r ≡ spec.stripped h ⌝ }
 {
-    if stands {
-        return admits(rows, held, a, q);
+    match h {
+        Header::Bare => Peers { first: 0 },
+        Header::Tunnel {
+            from,
+            to: _,
+            spi: _,
+        } => Peers { first: from },
     }
-    false
 }
 
-// up(a, packet), where `stands` tells whether In(a, q) stands for the header's q.
-pub fn up(stands: bool, rows: [Row; 32], held: u8, a: u8, p: Packet) -> Effect
-    ensures { λ r. ⌜ r ≡ spec.upRule stands (take held rows) a p ⌝ }
+// Whether the packet is bare, or its header's association stands and this session has an in row of it.
+fn admitted(users: &[u16; 2048], rows: [Row; 32], held: u8, a: u8, h: Header) -> bool
+    ensures { λ r. ⌜ r ≡ spec.admitted (row.stands (now (users .entry)) false) (take held rows) a h ⌝ }
 {
-    let header = p.header;
-    match header {
-        Header::Bare => writes(Item::In(a, p, Via::Untunnelled)),
+    match h {
+        Header::Bare => true,
         Header::Tunnel {
             from,
             to: _,
             spi: _,
         } => {
-            if lets_in(stands, rows, held, a, from) {
-                let packet = under(p, Header::Bare);
-                return writes(Item::In(a, packet, Via::Peer(from)));
+            if stands(users, false, a, from) {
+                return admits(rows, held, a, from);
             }
-            lost(Loss::NoTunnel)
+            false
         }
     }
+}
+
+fn same_peers(x: Peers, y: Peers) -> bool
+    ensures { λ r. ⌜ r ≡ row.samePeers x y ⌝ }
+{
+    x.first == y.first
+}
+
+// A packet from `b`, received at its destination `a`.
+fn received(a: u8, b: u8, y: Payload) -> Effect
+    ensures { λ r. ⌜ r ≡ spec.received a b y ⌝ }
+{
+    match y {
+        Payload::Req(e) => writes(Item::Auth(a, b, e, Side::Responder)),
+        Payload::Rep(e) => {
+            let item = Item::Auth(a, b, e, Side::Initiator);
+            writes_for(Wait::Establishment(a, e), item)
+        }
+        Payload::Disc(_) => lost(Loss::WrongTunnel),
+        Payload::Done => only(Outcome::Opened),
+        Payload::Data(tag) => only(Outcome::Delivered(tag)),
+    }
+}
+
+// up(a, packet): strip, admit, match, then forward or receive.
+pub fn up(users: &[u16; 2048], rows: [Row; 32], held: u8, a: u8, p: Packet) -> Effect
+    ensures { λ r. ⌜ r ≡ spec.upRule (row.stands (now (users .entry)) false) (take held rows) a p ⌝ }
+{
+    let header = p.header;
+    let payload = p.payload;
+    if !admitted(users, rows, held, a, header) {
+        return lost(Loss::NoTunnel);
+    }
+    let inner = under(p, Header::Bare);
+    let from = stripped(header);
+    let through = newest(rows, held, false, a, inner);
+    if !same_peers(through, from) {
+        return lost(Loss::WrongTunnel);
+    }
+    if p.destination == a {
+        return received(a, p.source, payload);
+    }
+    writes(Item::Out(a, inner))
 }

@@ -2,6 +2,7 @@
 use calculus::number::ItemNumber;
 use calculus::packet::Item;
 use calculus::packet::Slot;
+use calculus::session::Peers;
 use calculus::session::Row;
 use calculus::session::Session;
 use calculus::session::Stage;
@@ -26,7 +27,7 @@ pub fn blank_row() -> Row
         out: false,
         source: 0,
         destination: 0,
-        peer: 0,
+        peers: Peers { first: 0 },
         establishment: 0,
     }
 }

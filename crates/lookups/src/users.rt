@@ -59,8 +59,8 @@ fn moved(more: bool, n: u16) -> u16
 fn with_row(users: &mut [u16; 2048], more: bool, r: Row)
     ensures { λ _. ⌜ now (users .exit) ≡ spec.withUsers (cond more spec.oneMore spec.oneLess) (now (users .entry)) r ⌝ }
 {
-    if are_nodes(r.node, r.peer) {
-        let at = place(r.out, r.node, r.peer);
+    if are_nodes(r.node, r.peers.first) {
+        let at = place(r.out, r.node, r.peers.first);
         let n = users[at];
         users[at] = moved(more, n);
     }

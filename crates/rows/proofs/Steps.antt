@@ -23,13 +23,12 @@ use denote.Ref.{RefT}
 use denote.Slice.{sliceTy, sliceVal, ShrSlice}
 use denote.Steps.{only, owned, heard, facts}
 use denote.Struct.Laws as LL
-use denote.Enum.Laws as EL
-use Rattle.calculus.specs.declared.packet.Via.{Via}
+use Rattle.calculus.specs.declared.session.Peers.{Peers}
 use Rattle.calculus.specs.declared.session.Row.{Row}
 use Rattle.model.specs.Row.{inRow}
 use Rattle.rows.specs.declared.fit.Query.{Query}
-use Rattle.calculus.proofs.packet.Via as viaT
-use Rattle.calculus.proofs.packet.Via.Laws as viaL
+use Rattle.calculus.proofs.session.Peers as peersT
+use Rattle.calculus.proofs.session.Peers.Laws as peersL
 use Rattle.calculus.proofs.session.Row as rowT
 use Rattle.calculus.proofs.session.Row.Laws as rowL
 use Rattle.rows.proofs.fit.Query as queryT
@@ -40,8 +39,8 @@ abbrev pub noRow : Row
 noRow = inRow 0 0 0 0 0
 
 -- the machine values of a value
-abbrev pub IsVia : Via → Val → Type 0
-IsVia m v = Is viaT.the-row m (v ∷ [])
+abbrev pub IsPeers : Peers → Val → Type 0
+IsPeers m v = Is peersT.the-row m (v ∷ [])
 
 abbrev pub IsRow : Row → Val → Type 0
 IsRow r v = Is rowT.the-row r (v ∷ [])
@@ -68,8 +67,8 @@ Token 𝓤 κ q = ‵ (flft κ q) ⊛ ‵ ftrue
 
 -- the type in memory of a value
 module _ {M : Type 1} (𝓤 : URA M) (H : Heap 𝓤) (A : Atoms 𝓤) (W : Given 𝓤 H A) where
-  pub via-typed : (m : Via) (v : Val) → IsVia m v → Holds (hasTy viaL.mir v) × WT v
-  via-typed m v is = EL.lawful viaT.the-type viaL.the-laws 𝓤 H A W tt .typed m (v ∷ []) is .0
+  pub peers-typed : (m : Peers) (v : Val) → IsPeers m v → Holds (hasTy peersL.mir v) × WT v
+  peers-typed m v is = LL.lawful peersT.the-type peersL.the-laws 𝓤 H A W .typed m (v ∷ []) is .0
 
   pub row-typed : (r : Row) (v : Val) → IsRow r v → Holds (hasTy rowL.mir v) × WT v
   row-typed r v is = LL.lawful rowT.the-type rowL.the-laws 𝓤 H A W .typed r (v ∷ []) is .0
@@ -88,8 +87,8 @@ module _ {M : Type 1} {𝓤 : URA M} {H : Heap 𝓤} {A : Atoms 𝓤} {W : Given
 
 module _ {M : Type 1} {𝓤 : URA M} {H : Heap 𝓤} {A : Atoms 𝓤} {W : Given 𝓤 H A} {Γ : List (Item 𝓤)} {G : Goal 𝓤 H} where
   -- what is owned of a plain value is had for nothing
-  pub has-via : (m : Via) (v : Val) → IsVia m v → Step Go W (‵ (viaT.the-row .own m (v ∷ [])) ∷ Γ) G Γ G
-  has-via m v is = owned ! viaT.the-row (Is viaT.the-row) (EL.makes viaT.the-type viaL.the-plain 𝓤 H A) m (v ∷ []) is
+  pub has-peers : (m : Peers) (v : Val) → IsPeers m v → Step Go W (‵ (peersT.the-row .own m (v ∷ [])) ∷ Γ) G Γ G
+  has-peers m v is = owned ! peersT.the-row (Is peersT.the-row) (LL.makes peersT.the-type peersL.the-plain 𝓤 H A) m (v ∷ []) is
 
   pub has-row : (r : Row) (v : Val) → IsRow r v → Step Go W (‵ (rowT.the-row .own r (v ∷ [])) ∷ Γ) G Γ G
   has-row r v is = owned ! rowT.the-row (Is rowT.the-row) (LL.makes rowT.the-type rowL.the-plain 𝓤 H A) r (v ∷ []) is

@@ -1,7 +1,7 @@
 // What one row is to a packet, and to an association.
 use calculus::packet::Packet;
 use calculus::packet::Payload;
-use calculus::packet::Via;
+use calculus::session::Peers;
 use calculus::session::Row;
 ghost use mathlib.Core.Path.{_≡_};
 ghost use mathlib.Core.Bool.{not, _&&_};
@@ -61,12 +61,12 @@ fn fits(out: bool, a: u8, p: Packet, r: Row) -> bool
 }
 
 // The match after a row that is newer than all before it.
-pub fn newer(q: Query, best: Via, r: Row) -> Via
+pub fn newer(q: Query, best: Peers, r: Row) -> Peers
     ensures { λ x. ⌜ x ≡ spec.newer (q .out) (q .node) (q .packet) best r ⌝ }
 {
     let p = q.packet;
     if fits(q.out, q.node, p, r) {
-        return Via::Peer(r.peer);
+        return r.peers;
     }
     best
 }
@@ -77,7 +77,7 @@ pub fn names(out: bool, a: u8, q: u8, r: Row) -> bool
 {
     if same_way(r.out, out) {
         if r.node == a {
-            return r.peer == q;
+            return r.peers.first == q;
         }
     }
     false

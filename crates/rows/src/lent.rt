@@ -1,7 +1,7 @@
 // Match over lent rows, which are in order of age: the walk, and the function that lends.
 use crate::fit::Query;
 use crate::fit::newer;
-use calculus::packet::Via;
+use calculus::session::Peers;
 use calculus::session::Row;
 ghost use mathlib.Core.Path.{_≡_};
 ghost use Prim.Native.Nat.{_<_, _≤_};
@@ -16,11 +16,11 @@ fn row_at(rows: &[Row], i: usize) -> Row
 }
 
 // The match of the first `n` rows, from the oldest to the newest.
-fn newest(rows: &[Row], n: usize, q: Query) -> Via
+fn newest(rows: &[Row], n: usize, q: Query) -> Peers
     requires { ⌜ n ≤ length (now rows) ⌝ }
     ensures { λ x. ⌜ x ≡ spec.newest (take n (now (rows .entry))) (q .out) (q .node) (q .packet) ⌝ }
 {
-    let mut best = Via::Untunnelled;
+    let mut best = Peers { first: 0 };
     let mut i = 0;
     while i < n {
         let row = row_at(rows, i);
@@ -31,7 +31,7 @@ fn newest(rows: &[Row], n: usize, q: Query) -> Via
 }
 
 // The same of rows by value, which are lent to it.
-pub fn newest_in(rows: [Row; 32], n: usize, q: Query) -> Via
+pub fn newest_in(rows: [Row; 32], n: usize, q: Query) -> Peers
     requires { ⌜ n ≤ 32 ⌝ }
     ensures { λ x. ⌜ x ≡ spec.newest (take n rows) (q .out) (q .node) (q .packet) ⌝ }
 {

@@ -3,14 +3,14 @@ use crate::fit::Query;
 use crate::fit::names;
 use crate::lent::newest_in;
 use calculus::packet::Packet;
-use calculus::packet::Via;
+use calculus::session::Peers;
 use calculus::session::Row;
 ghost use mathlib.Core.Path.{_≡_};
 ghost use lib.ListN.{take};
 ghost use Rattle.model.specs.Row as spec;
 
-// Match: the peer of the newest row that fits.
-pub fn newest(rows: [Row; 32], held: u8, out: bool, a: u8, p: Packet) -> Via
+// Match: the peers of the newest row that fits, none where no row does.
+pub fn newest(rows: [Row; 32], held: u8, out: bool, a: u8, p: Packet) -> Peers
     ensures { λ x. ⌜ x ≡ spec.newest (take held rows) out a p ⌝ }
 {
     let q = Query {
@@ -53,7 +53,7 @@ pub fn out_row(a: u8, from: u8, to: u8, q: u8, e: u8) -> Row
         out: true,
         source: from,
         destination: to,
-        peer: q,
+        peers: Peers { first: q },
         establishment: e,
     }
 }
@@ -67,7 +67,7 @@ pub fn in_row(a: u8, from: u8, to: u8, q: u8, e: u8) -> Row
         out: false,
         source: from,
         destination: to,
-        peer: q,
+        peers: Peers { first: q },
         establishment: e,
     }
 }

@@ -2,52 +2,23 @@
 use calculus::answer::Loss;
 use calculus::effect::Effect;
 use calculus::network::Network;
-use calculus::packet::Header;
 use calculus::packet::Item;
-use calculus::packet::Packet;
 use calculus::packet::Side;
-use calculus::session::Row;
 use calculus::state::Part;
 use effects::effect::lost;
 use establishments::ack;
 use establishments::auth;
 use establishments::est;
 use establishments::grant;
-use forwarding::enter::enter;
 use forwarding::out::out;
 use forwarding::up::up;
 use forwarding::wire::wire;
 use lookups::network::has_all_needed;
-use lookups::users::stands;
 ghost use mathlib.Core.Path.{_≡_};
 ghost use mathlib.Core.Bool.{false};
-ghost use lib.ListN.{take};
 ghost use Rattle.model.specs.Network.{hasAllNeeded};
 ghost use Rattle.model.specs.Row as row;
 ghost use Rattle.model.specs.Rules as spec;
-
-// Whether the header is from some q, and In(a, q) stands.
-fn header_stands(users: &[u16; 2048], a: u8, h: Header) -> bool
-    ensures { λ r. ⌜ r ≡ spec.headerStands (row.stands (now (users .entry)) false) a h ⌝ }
-{
-    match h {
-        Header::Bare => false,
-        Header::Tunnel {
-            from,
-            to: _,
-            spi: _,
-        } => stands(users, false, a, from),
-    }
-}
-
-// Up, with whether the header's association stands.
-fn up_at(users: &[u16; 2048], rows: [Row; 32], held: u8, a: u8, p: Packet) -> Effect
-    ensures { λ r. ⌜ r ≡ spec.upRule (spec.headerStands (row.stands (now (users .entry)) false) a (p .header)) (take held rows) a p ⌝ }
-{
-    let header = p.header;
-    let standing = header_stands(users, a, header);
-    up(standing, rows, held, a, p)
-}
 
 // Auth, with whether q has all that a needs.
 fn auth_at(n: Network, a: u8, q: u8, e: u8, side: Side) -> Effect
@@ -75,8 +46,7 @@ pub fn rule(n: Network, users: &[u16; 2048], t: Part, i: Item) -> Effect
         Item::Free => never_met(),
         Item::Wire(a, p, h) => wire(n, s, a, p, h),
         Item::Out(a, p) => out(rows, held, a, p),
-        Item::Up(a, p) => up_at(users, rows, held, a, p),
-        Item::In(a, p, via) => enter(rows, held, a, p, via),
+        Item::Up(a, p) => up(users, rows, held, a, p),
         Item::Est(a, b, e) => est(a, b, e),
         Item::Auth(a, q, e, side) => auth_at(n, a, q, e, side),
         Item::Grant(a, q, e, side) => grant(s, a, q, e, side),

@@ -5,7 +5,7 @@ use Rattle.rows.proofs.fit.newer.Statement.{statement}
 use Rattle.rows.proofs.fit.newer.Tie as tie
 
 returns : tie.Need-returns
-returns c = simp (join (c .before .fits2 .ensures) (c .if1 .taken))
+returns c = simp (join (c .before .before .fits2 .ensures) (c .before .if1 .taken))
 
 returns-2 : tie.Need-returns-2
 returns-2 c = simp (join (c .before .fits2 .ensures) (c .if1 .left))

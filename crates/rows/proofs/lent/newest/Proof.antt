@@ -34,7 +34,6 @@ use denote.Slice.{ShrSlice, Room, slice-vals, shr-slice-tells, shr-slice-copy}
 use denote.Signature.{plain}
 use denote.Steps.{nothing}
 use denote.Struct.Laws as LL
-use denote.Enum.Laws as EL
 use denote.Triple.Statement.{Contract, Triple}
 use denote.Triple.Call.{calls-at}
 use denote.Triple.Clauses.{lasts}
@@ -43,17 +42,16 @@ use denote.Triple.Spec.{Meets, tripleOf}
 use denote.Triple.Table.{entered, cited}
 use denote.Triple.Walked.{says, needs, Stays, stay-none, stay-none-slice, walkOf, goes-none, goes-none-slice, ends-at, walked, walk-meets}
 use denote.Exit.{yes}
-use Rattle.calculus.specs.declared.packet.Via.{Via}
-use Rattle.calculus.specs.declared.packet.Via.the-variants.{Untunnelled}
+use Rattle.calculus.specs.declared.session.Peers.{Peers}
 use Rattle.calculus.specs.declared.session.Row.{Row}
-use Rattle.calculus.proofs.packet.Via as viaT
-use Rattle.calculus.proofs.packet.Via.Laws as viaL
+use Rattle.calculus.proofs.session.Peers as peersT
+use Rattle.calculus.proofs.session.Peers.Laws as peersL
 use Rattle.calculus.proofs.session.Row as rowT
 use Rattle.calculus.proofs.session.Row.Laws as rowL
 use Rattle.lookups.proofs.Walks.{Walked, walked-none, walked-more, walked-past}
 use Rattle.model.specs.Row as spec
 use Rattle.rows.specs.declared.fit.Query.{Query}
-use Rattle.rows.proofs.Steps.{noRow, query-value, IsVia, IsRow, IsQuery, slice, lent, Lent, Token, via-typed, row-typed, query-typed, has-via, has-row, has-query, has-number, here, reads, gives}
+use Rattle.rows.proofs.Steps.{noRow, query-value, IsPeers, IsRow, IsQuery, slice, lent, Lent, Token, peers-typed, row-typed, query-typed, has-peers, has-row, has-query, has-number, here, reads, gives}
 use Rattle.rows.proofs.fit.Query as queryT
 use Rattle.rows.proofs.fit.Query.Laws as queryL
 use Rattle.rows.proofs.fit.newer as newer
@@ -79,16 +77,16 @@ steps-fit i n p g = omega (arith, p, g)
 nearer : (i n : ℕ) → i < n → n - (i + 1) < n - i
 nearer i n p = omega (arith, p)
 
-abbrev after : Query → Via → Row → Via
+abbrev after : Query → Peers → Row → Peers
 after w = spec.newer (w .out) (w .node) (w .packet)
 
 -- a turn begins at row i, with `best` at the machine value v: what the walk over the first n rows carries after i of them
 record State (w : Query) (n : ℕ) (ys : List Row) : Type 0 where
   i : ℕ
-  best : Via
-  so-far : Walked (after w) Untunnelled n ys best i
+  best : Peers
+  so-far : Walked (after w) spec.noPeers n ys best i
   v : Val
-  is : IsVia best v
+  is : IsPeers best v
 
 module _ {M : Type 1} (𝓤 : URA M) (H : Heap 𝓤) (A : Atoms 𝓤) (mem : Memory → SProp 𝓤) (run : Routine → Fun 𝓤) where
   -- the contracts that the walk cites
@@ -119,14 +117,14 @@ module _ {M : Type 1} (𝓤 : URA M) (H : Heap 𝓤) (A : Atoms 𝓤) (W : Given
   Held = Token 𝓤 κ q
 
   module _ (gn : n < 2 ^ 64) (isW : IsQuery w wv) where
-    exits : (m : Via) (v : Val) → m ≡ spec.newest (take n ys) (w .out) (w .node) (w .packet) → IsVia m v
+    exits : (m : Peers) (v : Val) → m ≡ spec.newest (take n ys) (w .out) (w .node) (w .packet) → IsPeers m v
         → ent 𝓤 (⋆ 𝓤 H A (Held ∷ ‵ (Lent κ s) ∷ [])) (Post v)
     exits m v e is =
         qed W (Held ∷ ‵ (Lent κ s) ∷ []) ∵
         suffices ! _ (ends-at 𝓤 H A newest.ended stayed (newest.clauses 𝓤 H A mem run) W (((κ, tt), (q, tt), tt, x, at), tt) v m (tt, (tt, (tt, tt)))
         (tt, (tt, (tt, tt)))) $ says ! e $
         nothing ! $ has-query w wv isW $ fjoin ! $ has-number n gn $ fjoin ! $ move ! (2 ∷ 0 ∷ []) $ fjoin ! $ move ! (1 ∷ 0 ∷ []) $ frame ! $
-        frame ! $ has-via m v is $ done !
+        frame ! $ has-peers m v is $ done !
 
     -- what `row_at` and `newer` are passed, and that it is what they ask
     abbrev to-row : ℕ → RowAt 𝓤 H A mem run .Ghost
@@ -137,12 +135,12 @@ module _ {M : Type 1} (𝓤 : URA M) (H : Heap 𝓤) (A : Atoms 𝓤) (W : Given
         qed W (Held ∷ ‵ (Lent κ s) ∷ []) ∵ says ! h $ nothing ! $ has-number i gi $ fjoin ! $ move ! (2 ∷ 0 ∷ []) $ fjoin ! $ move ! (1 ∷ 0 ∷ []) $
         frame ! $ done !
 
-    abbrev to-newer : Via → Val → Row → Val → Newer 𝓤 H A mem run .Ghost
+    abbrev to-newer : Peers → Val → Row → Val → Newer 𝓤 H A mem run .Ghost
     to-newer m v r u = ((tt, tt, tt, (w, (m, (r, tt))), (wv ∷ [], (v ∷ [], (u ∷ [], tt)))), tt)
 
-    asked-newer : (m : Via) (v : Val) (r : Row) (u : Val) → IsVia m v → IsRow r u → ent 𝓤 (emp 𝓤) (Newer 𝓤 H A mem run .pre (to-newer m v r u))
+    asked-newer : (m : Peers) (v : Val) (r : Row) (u : Val) → IsPeers m v → IsRow r u → ent 𝓤 (emp 𝓤) (Newer 𝓤 H A mem run .pre (to-newer m v r u))
     asked-newer m v r u isM isR =
-        qed W [] ∵ nothing ! $ has-row r u isR $ fjoin ! $ has-via m v isM $ fjoin ! $ has-query w wv isW $ fjoin ! $ nothing ! $ join ! $ frame ! $
+        qed W [] ∵ nothing ! $ has-row r u isR $ fjoin ! $ has-peers m v isM $ fjoin ! $ has-query w wv isW $ fjoin ! $ nothing ! $ join ! $ frame ! $
         done !
 
     abbrev Nearer : State w n ys → State w n ys → Type 0
@@ -152,12 +150,12 @@ module _ {M : Type 1} (𝓤 : URA M) (H : Heap 𝓤) (A : Atoms 𝓤) (W : Given
     Nearer-wf = InvImage·wf (λ (a : State w n ys). n - a .i) (Nat·lt-wfRel .wf)
 
     -- a turn's end
-    abbrev next : (a : State w n ys) (r : Row) (m : Via) (v : Val) → a .i < n → n ≤ length ys → r ≡ getD ys (a .i) noRow → m ≡ after w (a .best) r
-        → IsVia m v → State w n ys
+    abbrev next : (a : State w n ys) (r : Row) (m : Peers) (v : Val) → a .i < n → n ≤ length ys → r ≡ getD ys (a .i) noRow → m ≡ after w (a .best) r
+        → IsPeers m v → State w n ys
     next a r m v less long e f is = record {
       i = a .i + 1;
       best = m;
-      so-far = subst (λ (b : Via). Walked (after w) Untunnelled n ys b (a .i + 1)) (sym (f ∙ ap (after w (a .best)) e))
+      so-far = subst (λ (b : Peers). Walked (after w) spec.noPeers n ys b (a .i + 1)) (sym (f ∙ ap (after w (a .best)) e))
           (walked-more (a .so-far) noRow (omega (arith, less, long)) less);
       v = v;
       is = is;
@@ -166,16 +164,16 @@ module _ {M : Type 1} (𝓤 : URA M) (H : Heap 𝓤) (A : Atoms 𝓤) (W : Given
     module _ (𝓣 : Tables 𝓤 H) (fm : FmC 𝓤 H (W .laws) (𝓣 .C)) (known-row : Triple 𝓤 (𝓣 .C #row-at) (RowAt 𝓤 H A mem run))
         (known-newer : Triple 𝓤 (𝓣 .C #newer) (Newer 𝓤 H A mem run)) (long : n ≤ length ys) (l₀ l₁ l₂ l₃ l₄ l₅ l₆ l₇ : ℕ) where
       abbrev En : Env 𝓤 H
-      En = (viaL.mir, l₀) ∷ (slice (named 0), l₁) ∷ (tyInt w64, l₂) ∷ (queryL.mir, l₃) ∷ (viaL.mir, l₄) ∷ (tyInt w64, l₅) ∷ (rowL.mir, l₆)
+      En = (peersL.mir, l₀) ∷ (slice (named 0), l₁) ∷ (tyInt w64, l₂) ∷ (queryL.mir, l₃) ∷ (peersL.mir, l₄) ∷ (tyInt w64, l₅) ∷ (rowL.mir, l₆)
           ∷ (tyBool, l₇) ∷ []
 
       -- [the token; what the slice owns; _7; …; _6, row; …; _5, i; …; _4, best; …; _3, q; …; _2, n; …; _1, rows; …; _0; …]
       abbrev At : State w n ys → List (Item 𝓤)
       At a = Held ∷ ‵ (Lent κ s) ∷ ‵ (froom tyBool l₇ 0) ∷ ‵ (fdies tyBool l₇) ∷ ‵ (froom rowL.mir l₆ 0) ∷ ‵ (fdies rowL.mir l₆)
           ∷ ‵ (fat fullShare (tyInt w64) l₅ 0 (vint w64 (a .i))) ∷ ‵ (fdies (tyInt w64) l₅)
-          ∷ ‵ (fat fullShare viaL.mir l₄ 0 (a .v)) ∷ ‵ (fdies viaL.mir l₄) ∷ ‵ (fat fullShare queryL.mir l₃ 0 wv) ∷ ‵ (fdies queryL.mir l₃)
+          ∷ ‵ (fat fullShare peersL.mir l₄ 0 (a .v)) ∷ ‵ (fdies peersL.mir l₄) ∷ ‵ (fat fullShare queryL.mir l₃ 0 wv) ∷ ‵ (fdies queryL.mir l₃)
           ∷ ‵ (fat fullShare (tyInt w64) l₂ 0 (vint w64 n)) ∷ ‵ (fdies (tyInt w64) l₂)
-          ∷ ‵ (fat fullShare (slice (named 0)) l₁ 0 (lent s)) ∷ ‵ (fdies (slice (named 0)) l₁) ∷ ‵ (froom viaL.mir l₀ 0) ∷ ‵ (fdies viaL.mir l₀) ∷ []
+          ∷ ‵ (fat fullShare (slice (named 0)) l₁ 0 (lent s)) ∷ ‵ (fdies (slice (named 0)) l₁) ∷ ‵ (froom peersL.mir l₀ 0) ∷ ‵ (fdies peersL.mir l₀) ∷ []
 
       -- a turn ends nearer to n, or the loop is left and the rest of the body runs
       abbrev Turned : State w n ys → Out → SProp 𝓤
@@ -196,8 +194,8 @@ module _ {M : Type 1} (𝓤 : URA M) (H : Heap 𝓤) (A : Atoms 𝓤) (W : Given
           use0 W (raw (Newer 𝓤 H A mem run .pre (to-newer (a .best) (a .v) r u))) (asked-newer (a .best) (a .v) r u (a .is) isR) $
           calls-at ! fm (Newer 𝓤 H A mem run) known-newer (to-newer (a .best) (a .v) r u)
           (and-then ! (reads 11 refl) (and-then ! (reads 9 refl) (and-then ! (reads 5 refl) (no-more !)))) (λ v.
-          gives tt viaT.the-row (λ m. m ≡ after w (a .best) r) (‵ ftrue) (lasts newer.ended tt (w, (a .best, (r, tt)))) v (λ m f isM. drop ! $
-          land ! here (store ! 8 refl (via-typed 𝓤 H A W m v isM)) $
+          gives tt peersT.the-row (λ m. m ≡ after w (a .best) r) (‵ ftrue) (lasts newer.ended tt (w, (a .best, (r, tt)))) v (λ m f isM. drop ! $
+          land ! here (store ! 8 refl (peers-typed 𝓤 H A W m v isM)) $
           assigns-last ! (bin ! (reads 6 refl) (lit ! tt) (record { fits = steps-fit (a .i) n less gn })) here
           (store ! 6 refl (tt, record { fits = steps-fit (a .i) n less gn })) $
           forget ! 2 refl $ forget ! 4 refl $ again ! Nearer At a (next a r m v less long e f isM) (nearer (a .i) n less)))))
@@ -208,7 +206,7 @@ module _ {M : Type 1} (𝓤 : URA M) (H : Heap 𝓤) (A : Atoms 𝓤) (W : Given
           assigns ! (bin ! (reads 6 refl) (reads 12 refl) tt) here (init ! 2 refl (tt, tt)) $
           rewrite ! 2 (λ (t : Bool). ‵ (fat fullShare tyBool l₇ 0 (vbool t))) test refl $ leaves-loop ! (reads 2 refl) $
           exec ! (𝓣 .C) (𝓣 .Λ) En mir.t-4 (atRet En Post) $
-          assigns ! (of-opd ! (reads 8 refl)) here (init ! 16 refl (via-typed 𝓤 H A W (a .best) (a .v) (a .is))) $
+          assigns ! (of-opd ! (reads 8 refl)) here (init ! 16 refl (peers-typed 𝓤 H A W (a .best) (a .v) (a .is))) $
           returns ! (look ! 16 refl) $ forget ! 2 refl $ forget ! 6 refl $ forget ! 8 refl $ forget ! 10 refl $ forget ! 12 refl $ forget ! 14 refl $
           forget ! 16 refl $
           move ! (16 ∷ 17 ∷ []) $ free1 ! $ move ! (14 ∷ 15 ∷ []) $ free1 ! $ move ! (12 ∷ 13 ∷ []) $ free1 ! $ move ! (10 ∷ 11 ∷ []) $ free1 ! $
@@ -221,10 +219,10 @@ module _ {M : Type 1} (𝓤 : URA M) (H : Heap 𝓤) (A : Atoms 𝓤) (W : Given
     abbrev start : State w n ys
     start = record {
       i = 0;
-      best = Untunnelled;
+      best = spec.noPeers;
       so-far = walked-none;
-      v = vstruct (vcons (vint w8 0) vnil);
-      is = EL.owes viaT.the-type viaL.the-laws Untunnelled tt;
+      v = peersL.lowered spec.noPeers;
+      is = LL.owes peersT.the-type peersL.the-laws spec.noPeers ((refl, omega arith), tt);
     }
 
     walk : (𝓣 : Tables 𝓤 H) → FmC 𝓤 H (W .laws) (𝓣 .C) → Triple 𝓤 (𝓣 .C #row-at) (RowAt 𝓤 H A mem run) → Triple 𝓤 (𝓣 .C #newer) (Newer 𝓤 H A mem run)
@@ -237,7 +235,7 @@ module _ {M : Type 1} (𝓤 : URA M) (H : Heap 𝓤) (A : Atoms 𝓤) (W : Given
         params1 ! $
         pass1 ! (init ! 12 refl (tt, (tt, (record { fits = room .0 }, tt)))) $ pass1 ! (init ! 10 refl (tt, record { fits = gn })) $
         pass1 ! (init ! 8 refl (query-typed 𝓤 H A W w wv isW)) $ pass0 ! $
-        assigns ! (agg ! (and-then ! (lit ! tt) (no-more !))) here (init ! 6 refl (via-typed 𝓤 H A W Untunnelled (start .v) (start .is))) $
+        assigns ! (agg ! (and-then ! (lit ! tt) (no-more !))) here (init ! 6 refl (peers-typed 𝓤 H A W spec.noPeers (start .v) (start .is))) $
         assigns ! (of-opd ! (lit ! tt)) here (init ! 4 refl (tt, record { fits = lit< tt })) $
         move ! (17 ∷ []) $ fsplit ! $ move ! (18 ∷ 0 ∷ []) $
         keep ! (0 ∷ 1 ∷ 3 ∷ 4 ∷ 5 ∷ 6 ∷ 7 ∷ 8 ∷ 9 ∷ 10 ∷ 11 ∷ 12 ∷ 13 ∷ 14 ∷ 15 ∷ 16 ∷ 17 ∷ 18 ∷ []) $

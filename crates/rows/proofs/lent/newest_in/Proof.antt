@@ -44,14 +44,14 @@ use denote.Triple.Spec.{Meets, tripleOf}
 use denote.Triple.Table.{entered, cited}
 use denote.Triple.Walked.{says, needs, Stays, stay-none, walkOf, goes-none, ends-at, walked, walk-meets}
 use denote.Exit.{yes}
-use Rattle.calculus.specs.declared.packet.Via.{Via}
+use Rattle.calculus.specs.declared.session.Peers.{Peers}
 use Rattle.calculus.specs.declared.session.Row.{Row}
-use Rattle.calculus.proofs.packet.Via as viaT
+use Rattle.calculus.proofs.session.Peers as peersT
 use Rattle.calculus.proofs.session.Row as rowT
 use Rattle.calculus.proofs.session.Row.Laws as rowL
 use Rattle.model.specs.Row as spec
 use Rattle.rows.specs.declared.fit.Query.{Query}
-use Rattle.rows.proofs.Steps.{query-value, IsVia, IsQuery, slice, lent, Lent, Token, via-typed, query-typed, has-via, has-query, has-number, here, reads, gives}
+use Rattle.rows.proofs.Steps.{query-value, IsPeers, IsQuery, slice, lent, Lent, Token, peers-typed, query-typed, has-peers, has-query, has-number, here, reads, gives}
 use Rattle.rows.proofs.fit.Query as queryT
 use Rattle.rows.proofs.fit.Query.Laws as queryL
 use Rattle.rows.proofs.lent.newest as newest
@@ -97,7 +97,7 @@ module _ {M : Type 1} (𝓤 : URA M) (H : Heap 𝓤) (A : Atoms 𝓤) (W : Given
   abbrev Post : Val → SProp 𝓤
   Post = walkOf 𝓤 H A newest-in.ended stayed (newest-in.clauses 𝓤 H A mem run) .post ((tt, tt, tt, x, at), tt)
 
-  abbrev found : Via
+  abbrev found : Peers
   found = spec.newest (take n rows) (w .out) (w .node) (w .packet)
 
   -- the rows in memory, and the array's cell
@@ -131,13 +131,13 @@ module _ {M : Type 1} (𝓤 : URA M) (H : Heap 𝓤) (A : Atoms 𝓤) (W : Given
         (array-tells rowT.the-row (LL.vals rowT.the-type rowL.the-laws) (LL.tells rowT.the-type rowL.the-laws) 32) fullShare rows vs l 0 $
         use1 W (‵ (Cell l)) (W .laws .raw-at fullShare tyRows l 0 av) $ keep ! (0 ∷ []) $ done !)))
 
-    exits : (m : Via) (v : Val) → m ≡ found → IsVia m v → ent 𝓤 (emp 𝓤) (Post v)
+    exits : (m : Peers) (v : Val) → m ≡ found → IsPeers m v → ent 𝓤 (emp 𝓤) (Post v)
     exits m v e is =
         qed W [] ∵
         suffices ! _ (ends-at 𝓤 H A newest-in.ended stayed (newest-in.clauses 𝓤 H A mem run) W ((tt, tt, tt, x, at), tt) v m (tt, (tt, (tt, tt)))
         (tt, (tt, (tt, tt)))) $ says ! e $
         nothing ! $ has-query w wv isW $ fjoin ! $ has-number n gn $ fjoin ! $ owned ! Rows (Is Rows) made rows (av ∷ []) isA $ fjoin ! $ nothing ! $
-        frame ! $ frame ! $ has-via m v is $ done !
+        frame ! $ frame ! $ has-peers m v is $ done !
 
     -- the slice that is lent
     abbrev s : ℕ → GName → RefT (List Row)
@@ -178,10 +178,10 @@ module _ {M : Type 1} (𝓤 : URA M) (H : Heap 𝓤) (A : Atoms 𝓤) (W : Given
           -- [what `newest` asks; what is lent; _6; …; _5; …; what frees _4; _3; …; _2; …; _1; …; _0; …]
           calls-at ! fm (Newest 𝓤 H A mem run) known (to α l₄ γ)
           (and-then ! (reads 2 refl) (and-then ! (reads 9 refl) (and-then ! (reads 7 refl) (no-more !)))) (λ v.
-          gives tt viaT.the-row (λ m. m ≡ found) (Token 𝓤 (α ∷ []) fullShare) (lasts newest.ended (α ∷ [], tt) (s l₄ γ, (n, (w, tt)))) v
+          gives tt peersT.the-row (λ m. m ≡ found) (Token 𝓤 (α ∷ []) fullShare) (lasts newest.ended (α ∷ [], tt) (s l₄ γ, (n, (w, tt)))) v
           (λ m e is. split ! $
           -- [the token; true; what is lent; _6; …; _5; …; what frees _4; _3; …; _2; …; _1; …; _0; …]
-          land ! here (init ! 14 refl (via-typed 𝓤 H A W m v is)) $
+          land ! here (init ! 14 refl (peers-typed 𝓤 H A W m v is)) $
           -- the lifetime is over, and the array is there again
           lft-end ! tt $ move ! (0 ∷ 2 ∷ []) $ lent-back ! tt $ use1 W (‵ (Cell l₄)) (back l₄) $
           returns ! (look ! 13 refl) $ forget ! 0 refl $ forget ! 2 refl $ forget ! 4 refl $ forget ! 7 refl $ forget ! 9 refl $ forget ! 11 refl $
