@@ -1,4 +1,5 @@
 -- `up::up` meets its contract. Assumes nothing.
+use borrow.Author.Tests.{eq-eqb, ne-eqb, not-true, not-false}
 use borrow.Author.Needs.{needs}
 use Rattle.calculus.proofs.Tests.{join}
 use Rattle.model.specs.Rules.{upRule}
@@ -7,28 +8,39 @@ use Rattle.forwarding.proofs.up.up.Tie as tie
 
 returns : tie.Need-returns
 unfolding upRule
-returns c =
-    simp (
-      c .writes2 .ensures,
-      c .before .under .ensures,
-      join (c .before .before .before .lets-in .ensures) (c .before .before .if1 .taken),
-      c .before .before .before .before .before .header .given .1,
-    )
+returns c = simp (c .lost .ensures, join (c .before .before .admitted .ensures) (not-true _ (c .before .if1 .taken)))
 
 returns-2 : tie.Need-returns-2
 unfolding upRule
-returns-2 c = simp (c .writes .ensures, c .before .enum-told .given .1)
+returns-2 c =
+    simp (
+      c .lost2 .ensures,
+      simp (c .before .before .before .newest .ensures, c .before .before .before .before .stripped .ensures, c .before .before .before .before .before .under .ensures) at (join (c .before .before .same-peers .ensures) (not-true _ (c .before .if2 .taken))),
+      join (c .before .before .before .before .before .before .before .admitted .ensures) (not-false _ (c .before .before .before .before .before .before .if1 .left)),
+    )
 
 returns-3 : tie.Need-returns-3
 unfolding upRule
 returns-3 c =
     simp (
-      c .lost .ensures,
-      join (c .before .before .lets-in .ensures) (c .before .if1 .left),
-      c .before .before .before .before .header .given .1,
+      c .received .ensures,
+      eq-eqb _ _ (c .before .if3 .taken),
+      simp (c .before .before .before .before .before .newest .ensures, c .before .before .before .before .before .before .stripped .ensures, c .before .before .before .before .before .before .before .under .ensures) at (join (c .before .before .before .before .same-peers .ensures) (not-false _ (c .before .before .before .if2 .left))),
+      join (c .before .before .before .before .before .before .before .before .before .admitted .ensures) (not-false _ (c .before .before .before .before .before .before .before .before .if1 .left)),
+    )
+
+returns-4 : tie.Need-returns-4
+unfolding upRule
+returns-4 c =
+    simp (
+      c .writes .ensures,
+      c .before .before .before .before .before .before .before .under .ensures,
+      ne-eqb _ _ (c .before .if3 .left),
+      simp (c .before .before .before .before .before .newest .ensures, c .before .before .before .before .before .before .stripped .ensures, c .before .before .before .before .before .before .before .under .ensures) at (join (c .before .before .before .before .same-peers .ensures) (not-false _ (c .before .before .before .if2 .left))),
+      join (c .before .before .before .before .before .before .before .before .before .admitted .ensures) (not-false _ (c .before .before .before .before .before .before .before .before .if1 .left)),
     )
 
 pub up-spec : {M : Type 1} → statement M
 up-spec =
     tie.close
-    (tie.spec (λ c. search needs) (λ c κs. search needs) (λ c. search needs) (λ c κs. search needs) (λ c κs. search needs) (λ c κs. search needs) returns (λ c κs. search needs) returns-2 returns-3)
+    (tie.spec (λ c κs. search needs) (λ c κs. search needs) returns (λ c κs. search needs) (λ c κs. search needs) (λ c κs. search needs) (λ c κs. search needs) (λ c κs. search needs) returns-2 (λ c κs. search needs) returns-3 (λ c κs. search needs) returns-4)

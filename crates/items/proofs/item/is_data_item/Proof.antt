@@ -12,13 +12,10 @@ returns-3 c = simp (c .has-data2 .ensures, c .before .before .i2 .given .1)
 returns-4 : tie.Need-returns-4
 returns-4 c = simp (c .has-data3 .ensures, c .before .before .i3 .given .1)
 
-returns-5 : tie.Need-returns-5
-returns-5 c = simp (c .has-data4 .ensures, c .before .before .i4 .given .1)
-
 pub is-data-item-spec : {M : Type 1} → statement M
 is-data-item-spec =
     tie.close
     (tie.spec (λ c. search needs) (λ c. search needs) (λ c κs. search needs) (λ c. search needs) (λ c κs. search needs) (λ c. search needs)
-    (λ c κs. search needs) (λ c. search needs) (λ c κs. search needs) (λ c. search needs) (λ c. search needs) (λ c. search needs)
-    (λ c. search needs) (λ c. search needs) (λ c. search needs) (λ c. search needs) returns-2 returns-3 returns-4 returns-5 (λ c. search needs)
-    (λ c. search needs) (λ c. search needs) (λ c. search needs) (λ c. search needs) (λ c. search needs))
+    (λ c κs. search needs) (λ c. search needs) (λ c. search needs) (λ c. search needs) (λ c. search needs) (λ c. search needs) (λ c. search needs)
+    (λ c. search needs) returns-2 returns-3 returns-4 (λ c. search needs) (λ c. search needs) (λ c. search needs) (λ c. search needs)
+    (λ c. search needs) (λ c. search needs))
