@@ -20,7 +20,7 @@ pub struct Session {
     pub last: ItemNumber,
 }
 
-// The other ends of the tunnel that a row puts packets through, or that a packet came out of: one node, or 0 for none.
+// Who is at the other end of a row's tunnel, or of the one that a packet came through: a node, or 0 for none.
 pub struct Peers {
     pub first: u8,
 }

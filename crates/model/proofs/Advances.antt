@@ -21,7 +21,7 @@ use Rattle.calculus.specs.declared.state.Part.{Part}
 use Rattle.model.specs.Lists.{All}
 use Rattle.model.specs.Network.{isGateway, nextHop, hasAllNeeded}
 use Rattle.model.specs.Packet.{hopLimit, bare, under}
-use Rattle.model.specs.Row.{onePeer, held, newest, admits, areNodes}
+use Rattle.model.specs.Row.{held, newest, admits, areNodes}
 use Rattle.model.specs.Rules.{lost, writes, isExhausted, begin, discovers, headerTo, unprotected, onward, wireRule, outRule, received, upRule, estRule, authRule, grantRule, acknowledged, ackRule, rule}
 use Rattle.model.specs.State.{begunAfter, addedRows}
 use Rattle.model.specs.Termination.{tripSteps, ceiling, isActive}
@@ -38,7 +38,7 @@ pub record Next (net : Network) (c d b n : ℕ) (f : Effect) : Type 0 where
   pub written : Written (λ i. isActive i ≡ true → Underway net c d (begunAfter b (f .begins)) (n + 1) i) (f .outcome)
   pub added : All (Chained net c d (begunAfter b (f .begins))) (addedRows (f .added))
 
--- what stands is told by the rows, as `local` of Local has it
+-- what stands is told by the nodes, as `local` of Local has it
 module _ (net : Network) (t : Part) (n : ℕ) where
   abbrev c : ℕ
   c = t .session .client
@@ -139,7 +139,7 @@ module _ (net : Network) (t : Part) (n : ℕ) where
         }))
 
     -- through the matching tunnel, or bare
-    done-out : (q x k : ℕ) → Returning net c d b x k → tripSteps * k + n ≤ ceiling → After (writes (Wire x (under (bare d c Done) (headerTo x (onePeer q))) hopLimit))
+    done-out : (q x k : ℕ) → Returning net c d b x k → tripSteps * k + n ≤ ceiling → After (writes (Wire x (under (bare d c Done) (headerTo x (record { first = q }))) hopLimit))
     done-out q x k w m =
         either (λ (h : Header). After (writes (Wire x (under (bare d c Done) h) hopLimit))) (eqb q 0)
         (λ e. wrote (omega (arith, w .least)) (doneBare (onWire x hopLimit) (omega arith) (omega (arith, w .least))))

@@ -13,7 +13,7 @@ use Rattle.calculus.specs.declared.packet.Item.{Item}
 use Rattle.calculus.specs.declared.packet.Item.the-variants.{Wire, Out, Ack, Dwait, Ewait}
 use Rattle.calculus.specs.declared.packet.Packet.{Packet}
 use Rattle.calculus.specs.declared.packet.Payload.{Payload}
-use Rattle.calculus.specs.declared.packet.Payload.the-variants.{Rep, Disc, Data}
+use Rattle.calculus.specs.declared.packet.Payload.the-variants.{Rep, Disc, Done, Data}
 use Rattle.calculus.specs.declared.packet.Slot.{Slot}
 use Rattle.calculus.specs.declared.request.Request as request
 use Rattle.calculus.specs.declared.request.Request.the-variants.{Node, Route, Open, Step, Send, Close, Show, Net}
@@ -30,7 +30,7 @@ use Rattle.model.specs.Calls.{Call, call, linesOf, after, replies, roomy
 use Rattle.model.specs.Noninterference.{View, view}
 use Rattle.model.specs.Termination.{setUpSteps, afterRounds}
 use Rattle.model.specs.JoinListings.{JoinListings}
-use Rattle.model.specs.Listings.{Exchange, Listing, listings, listingA, listingB, listingC, listingF, dataInFirstOfThree, threeTunnels, waitsLeft, furtherExamples}
+use Rattle.model.specs.Listings.{Exchange, Listing, listings, listingA, listingB, listingC, listingF, throughGateway, dataInFirstOfThree, threeTunnels, waitsLeft, furtherExamples}
 
 -- ---- what is written
 
@@ -187,7 +187,24 @@ discOfAnAck =
       };
     }
 
--- and at the end, with three tunnels
+-- with one gateway, after the Done's up there: its header is off, and it is to go out again
+abbrev pub sentOutAgain : Moment
+sentOutAgain =
+    record {
+      calls = take 46 throughGateway;
+      sees = record {
+        stage = Stage.SettingUp;
+        ends = some (1, 3);
+        items = item 41 (Out 2 (packet 3 1 Done Bare)) ∷ [];
+        rows = row 1 true 1 3 2 1 ∷ row 1 false 3 1 2 1 ∷ row 2 true 3 1 1 1 ∷ row 2 false 1 3 1 1
+            ∷ row 2 true 1 3 3 2 ∷ row 2 false 3 1 3 2 ∷ row 3 true 3 1 2 2 ∷ row 3 false 1 3 2 2
+            ∷ [];
+        begun = 2;
+        last = 41;
+      };
+    }
+
+-- with two, at the end: three tunnels
 abbrev pub endOfThreeTunnels : Moment
 endOfThreeTunnels =
     record {
@@ -221,7 +238,7 @@ onlyWaitsAndData =
     }
 
 abbrev pub moments : List Moment
-moments = beforeAck ∷ endOfB ∷ endOfF ∷ middleOfC ∷ endOfC ∷ discOfAnAck ∷ endOfThreeTunnels ∷ onlyWaitsAndData ∷ []
+moments = beforeAck ∷ endOfB ∷ endOfF ∷ middleOfC ∷ endOfC ∷ discOfAnAck ∷ sentOutAgain ∷ endOfThreeTunnels ∷ onlyWaitsAndData ∷ []
 
 -- ---- how many steps session 1 took
 

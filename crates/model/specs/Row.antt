@@ -18,24 +18,18 @@ use Rattle.model.specs.Lists.{fold, tally}
 abbrev pub held : Part → List Row
 held t = take (t .session .rows) (t .rows)
 
--- ---- peers
-
 abbrev pub noPeers : Peers
 noPeers = record { first = 0 }
-
--- q, which is a node
-abbrev pub onePeer : ℕ → Peers
-onePeer q = record { first = q }
 
 abbrev pub samePeers : Peers → Peers → Bool
 samePeers x y = eqb (x .first) (y .first)
 
 -- an out row and an in row at a, with the filter (from, to), peer q, of establishment e
 abbrev pub outRow : ℕ → ℕ → ℕ → ℕ → ℕ → Row
-outRow a from to q e = record { node = a; out = true; source = from; destination = to; peers = onePeer q; establishment = e }
+outRow a from to q e = record { node = a; out = true; source = from; destination = to; peers = record { first = q }; establishment = e }
 
 abbrev pub inRow : ℕ → ℕ → ℕ → ℕ → ℕ → Row
-inRow a from to q e = record { node = a; out = false; source = from; destination = to; peers = onePeer q; establishment = e }
+inRow a from to q e = record { node = a; out = false; source = from; destination = to; peers = record { first = q }; establishment = e }
 
 -- ---- match
 

@@ -30,7 +30,7 @@ use Rattle.calculus.specs.declared.state.Part.{Part}
 use Rattle.calculus.specs.declared.network.Network.{Network}
 use Rattle.model.specs.Network.{isGateway, nextHop, hasAllNeeded}
 use Rattle.model.specs.Packet.{hopLimit, bare, under, target, isBare, isDataOrDone}
-use Rattle.model.specs.Row.{noPeers, onePeer, samePeers, held, inRow, outRow, newest, admits, spiOf}
+use Rattle.model.specs.Row.{noPeers, samePeers, held, inRow, outRow, newest, admits, spiOf}
 
 -- ---- effects
 
@@ -120,12 +120,12 @@ outRule rows a p = writes (Wire a (under p (headerTo a (newest rows true a p))) 
 
 -- ---- up
 
--- what the header is from, none where there is no header
+-- the q of "Header from q", none of a bare packet
 abbrev pub stripped : Header → Peers
 stripped Bare = noPeers
-stripped (Tunnel q to i) = onePeer q
+stripped (Tunnel q to i) = record { first = q }
 
--- "Header from q: if In(a, q) stands and an in row of this session at a has peer q"
+-- a packet is bare, or "In(a, q) stands and an in row of this session at a has peer q"
 abbrev pub admitted : (ℕ → ℕ → Bool) → List Row → ℕ → Header → Bool
 admitted standing rows a Bare = true
 admitted standing rows a (Tunnel q to i) = standing a q && admits rows a q
@@ -138,9 +138,9 @@ received a b (Disc p) = neverMet
 received a b Done = only Opened
 received a b (Data tag) = only (Delivered tag)
 
--- up(a, packet): "its header test and then what in did, under one number". "The matching in row's peer must be q, or with no row q must
--- be none": with no row no list of calls comes to a q, since the rows that send a packet into a tunnel and those that match it at the
--- tunnel's end come with one establishment
+-- up(a, packet): "its header test and then what in did, under one number". "Lost 4 is tested before lost 5": the latter where the
+-- matching in row's peer is not q, or there is no row and a q. To a q without a row no list of calls comes: the rows that send a packet
+-- into a tunnel and those that match it at the tunnel's end come with one establishment
 unfoldable pub upRule : (ℕ → ℕ → Bool) → List Row → ℕ → Packet → Effect
 upRule standing rows a p =
     let inner = under p Bare in
