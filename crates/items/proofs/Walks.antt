@@ -6,8 +6,10 @@ use Prim.Native.Nat.{ℕ, suc, _+_, _≤_, _<_}
 use native.Mathlib.Nat.{zero-add}
 use native.Mathlib.Numerals.{add-one}
 use native.Mathlib.Omega.{arith}
+use lib.Dec.{leb}
 use lib.ListN.{length, getD, drop, drop-of-length-le}
 use lib.Seq.{drop-cons}
+use borrow.Author.Tests.{le-leb}
 use Rattle.model.specs.Lists.{place, tally}
 use Rattle.model.proofs.Checks.{one-le}
 
@@ -52,6 +54,9 @@ module _ {A : Type 0} {f : A → Bool} {l : List A} where
       let b = f (getD l i z) in
       let p : tally f (drop i l) ≡ cond b 1 0 + tally f (drop (suc i) l) = rw (drop-cons l i z) in
       record { same = rw add-one (omega (arith, w .same, p)); few = omega (arith, w .few, one-le b) }
+
+  pub counted-enough : {n i : ℕ} → Counted f l n i → (k : ℕ) → k ≤ n → true ≡ leb k (tally f l)
+  counted-enough w k h = sym (le-leb k (tally f l) (omega (arith, w .same)))
 
   pub counted-end : {n i : ℕ} → Counted f l n i → length l ≤ i → n ≡ tally f l
   counted-end {n} {i} w h =

@@ -12,6 +12,7 @@ use lookups::blank::blank_slot;
 ghost use mathlib.Core.Path.{_≡_};
 ghost use mathlib.Core.Bool.{cond};
 ghost use Prim.Native.Nat.{_+_, _≤_};
+ghost use lib.Dec.{leb};
 ghost use lib.ListN.{set};
 ghost use Rattle.model.specs.Lists as lists;
 ghost use Rattle.model.specs.Item as spec;
@@ -97,18 +98,22 @@ pub fn find(items: [Slot; 16], w: Wanted) -> usize
     i
 }
 
-// How many are packets with Data.
-pub fn count_data(items: [Slot; 16]) -> usize
-    ensures { λ r. ⌜ r ≡ spec.howManyItems spec.isDataItem items ⌝ }
+// Whether 12 are packets with Data. The walk ends there: one over all sixteen is unrolled by the compiler, and then every
+// part is moved place by place.
+pub fn is_full(items: [Slot; 16]) -> bool
+    ensures { λ r. ⌜ r ≡ leb 12 (spec.howManyItems spec.isDataItem items) ⌝ }
 {
     let mut n: usize = 0;
     let mut i: usize = 0;
     while i < 16 {
+        if 12 <= n {
+            return true;
+        }
         let slot = items[i];
         n = count_one(n, slot);
         i += 1;
     }
-    n
+    12 <= n
 }
 
 // The places with `s` at `at`; unchanged where that is past them.

@@ -1,6 +1,6 @@
 -- Every rule leads from one place of a set-up to another, a step nearer to the end. Assumes nothing.
-use mathlib.Core.Path.{_≡_, refl, sym, subst, ap, _∙_}
-use mathlib.Core.Bool.{Bool, true, false, not, _&&_, _||_}
+use mathlib.Core.Path.{_≡_, refl, sym, subst, _∙_}
+use mathlib.Core.Bool.{true, false, not, _&&_, _||_}
 use Prim.Native.Nat.{ℕ, _+_, _-_, _*_, _≤_, _<_}
 use native.Mathlib.Omega.{arith}
 use lib.Dec.{eqb}
@@ -178,7 +178,7 @@ module _ (net : Network) (t : Part) (n : ℕ) where
     advances x (requesting i w v k) =
         let p = bare (point b) (point i) (Req b) in
         on-trip p (omega arith)
-        (travels net areNodes t (point b) (point i) (Req b) (λ g u x. refl)
+        (travels net t (point b) (point i) (Req b) (λ g u x. refl)
         (λ m. never-tunnelled net c d b (point b) p i (w .number) (w .between) (eq-eqb b b refl) (λ z. (initiator i w, z)) (held t) rows) v)
         (λ j x u m. requesting i w u (omega arith))
         (wrote (omega arith) (responderAuth i w (omega (arith, trip-some v))))
@@ -195,7 +195,7 @@ module _ (net : Network) (t : Part) (n : ℕ) where
     advances x (replying i w v k) =
         let p = bare (point i) (point b) (Rep b) in
         on-trip p (omega arith)
-        (travels net areNodes t (point i) (point b) (Rep b) (λ g u x. refl)
+        (travels net t (point i) (point b) (Rep b) (λ g u x. refl)
         (λ m. never-tunnelled net c d b (point i) p i (w .number) (w .between) (eq-eqb b b refl) (λ z. (z, initiator i w)) (held t) rows) v)
         (λ j x u m. replying i w u (omega arith))
         (record { counted = omega arith; written = λ o. initiatorAuth i w (omega (arith, trip-some v)); added = tt })
@@ -228,6 +228,6 @@ module _ (net : Network) (t : Part) (n : ℕ) where
         (λ f. record { counted = few; written = tt; added = tt })))
     advances i (doneBare v l m) =
         on-trip (bare d c Done) (omega (arith, trip-some v))
-        (travels net areNodes t d c Done (λ g u x. refl) (λ o. absurd (omega arith)) v)
+        (travels net t d c Done (λ g u x. refl) (λ o. absurd (omega arith)) v)
         (λ j x u o. doneBare u (omega arith) (omega arith))
         (record { counted = omega (arith, trip-some v); written = tt; added = tt })

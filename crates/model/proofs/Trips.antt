@@ -17,7 +17,7 @@ use Rattle.calculus.specs.declared.packet.Item.the-variants.{Wire, Out, Up}
 use Rattle.calculus.specs.declared.state.Part.{Part}
 use Rattle.model.specs.Network.{isGateway, nextHop}
 use Rattle.model.specs.Packet.{hopLimit, bare}
-use Rattle.model.specs.Row.{noPeers, samePeers, held, newest}
+use Rattle.model.specs.Row.{noPeers, samePeers, held, newest, areNodes}
 use Rattle.model.specs.Rules.{lost, writes, discovers, unprotected, onward, wireRule, outRule, received, upRule, rule}
 use Rattle.model.specs.Termination.{tripSteps}
 
@@ -39,13 +39,13 @@ pub data Travels (p : Packet) (j : ℕ) : Effect → Type 0 where
   hops : (next : NextHop) (h : ℕ) → (h ≡ 0 → ⊥) → h + 2 ≡ j → Travels p j (onward next p h)
   comes : Travels p j (received (p .destination) (p .source) (p .payload))
 
-module _ (n : Network) (standing : ℕ → ℕ → Bool) (t : Part) (x z : ℕ) (y : Payload)
+module _ (n : Network) (t : Part) (x z : ℕ) (y : Payload)
     (quiet : (g : Bool) (v a : ℕ) → discovers g v a y ≡ false) where
   abbrev packet : Packet
   packet = bare x z y
 
   -- where it is still to be sent, it is sent bare
-  pub travels : {j : ℕ} {i : Item} → (tripSteps ≤ j → newest (held t) true x packet ≡ noPeers) → Trip packet j i → Travels packet j (rule n standing t i)
+  pub travels : {j : ℕ} {i : Item} → (tripSteps ≤ j → newest (held t) true x packet ≡ noPeers) → Trip packet j i → Travels packet j (rule n areNodes t i)
   unfolding rule outRule wireRule upRule
   travels none sent = rw (none (omega arith)) (further (hopLimit + 2) _ (onWire x hopLimit) (omega arith))
   travels none (onWire a h) =

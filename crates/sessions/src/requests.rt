@@ -6,7 +6,6 @@ use calculus::network::Network;
 use calculus::number::ItemNumber;
 use calculus::packet::Item;
 use calculus::packet::Payload;
-use calculus::packet::Slot;
 use calculus::request::Sender;
 use calculus::session::Session;
 use calculus::session::Stage;
@@ -17,8 +16,8 @@ use effects::moves::stepped;
 use items::item::is_wait;
 use items::packet::bare;
 use items::places::Wanted;
-use items::places::count_data;
 use items::places::find;
+use items::places::is_full;
 use items::places::put_item;
 use lookups::network::given;
 use lookups::network::is_gateway;
@@ -27,8 +26,6 @@ use rules::rule::rule;
 ghost use mathlib.Core.Path.{_≡_};
 ghost use mathlib.Core.Bool.{false, not, _&&_, _||_};
 ghost use Prim.Native.Nat.{_≤_};
-ghost use lib.Dec.{leb};
-ghost use Rattle.model.specs.Item.{howManyItems, isDataItem};
 ghost use Rattle.model.specs.Network as network;
 ghost use Rattle.model.specs.Row.{stands};
 ghost use Rattle.model.specs.Requests as spec;
@@ -192,14 +189,6 @@ fn sending(t: Part, w: Sender, tag: u32) -> Part
     let stage = s.stage;
     let item = data_item(s, w, tag);
     with_item(t, stage, s.client, s.server, item)
-}
-
-// Whether 12 Data items pend.
-fn is_full(items: [Slot; 16]) -> bool
-    ensures { λ r. ⌜ r ≡ leb 12 (howManyItems isDataItem items) ⌝ }
-{
-    let pending = count_data(items);
-    12 <= pending
 }
 
 // send u w tag, where `t` is u's part: refusals 7, 13, 10.
