@@ -98,22 +98,22 @@ pub fn find(items: [Slot; 16], w: Wanted) -> usize
     i
 }
 
-// Whether 12 are packets with Data. The walk ends there: one over all sixteen is unrolled by the compiler, and then every
-// part is moved place by place.
+// Whether 12 are packets with Data. The walk goes by what it counts: one that always makes sixteen turns is unrolled by the
+// compiler, and then every part is moved place by place.
 pub fn is_full(items: [Slot; 16]) -> bool
     ensures { λ r. ⌜ r ≡ leb 12 (spec.howManyItems spec.isDataItem items) ⌝ }
 {
     let mut n: usize = 0;
     let mut i: usize = 0;
-    while i < 16 {
-        if 12 <= n {
-            return true;
+    while n < 12 {
+        if 16 <= i {
+            return false;
         }
         let slot = items[i];
         n = count_one(n, slot);
         i += 1;
     }
-    12 <= n
+    true
 }
 
 // The places with `s` at `at`; unchanged where that is past them.

@@ -1,6 +1,7 @@
 -- `places::is_full` meets its contract. Assumes nothing.
+use borrow.Author.Tests.{lt-leb}
 use borrow.Author.Needs.{needs}
-use mathlib.Core.Path.{ap}
+use mathlib.Core.Path.{sym, ap, _∙_}
 use Prim.Native.Nat.{_-_}
 use lib.Dec.{leb}
 use Rattle.model.specs.Item.{isDataItem}
@@ -15,13 +16,13 @@ abbrev μ-loop : tie.MeasureT-loop
 μ-loop items n₀ i₀ n i = 16 - i
 
 returns : tie.Need-returns Inv-loop μ-loop
-returns c = counted-enough (c .before .before .loop .inv) 12 (c .if1 .taken)
+returns c = sym (lt-leb _ _ (c .before .loop-test .taken)) ∙ ap (leb 12) (counted-end (c .before .before .loop .inv) (search needs))
 
 loop-again : tie.Need-loop-again Inv-loop μ-loop
 loop-again c = rw (c .count-one .ensures) (counted-more (c .before .before .before .before .loop .inv) _ (search needs))
 
 returns-2 : tie.Need-returns-2 Inv-loop μ-loop
-returns-2 c = ap (leb 12) (counted-end (c .before .loop .inv) (search needs))
+returns-2 c = counted-enough (c .before .loop .inv) 12 (search needs)
 
 pub is-full-spec : {M : Type 1} → statement M
 is-full-spec =
