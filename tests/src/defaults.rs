@@ -1,10 +1,11 @@
 //! What a list of calls meets of default routes (#104), by the second implementation: the tests of random lists have to meet
 //! all of it.
 
-use crate::calculus::{Item, Packet, Payload};
+use crate::calculus::{Item, Packet};
 use crate::compare::made;
 use crate::form::Form;
 use crate::network::DEFAULT;
+use crate::packets::{carriage, payload};
 use crate::simulator::Simulator;
 use std::collections::{BTreeMap, BTreeSet};
 
@@ -90,15 +91,7 @@ impl Watch {
     }
 
     fn note_default(&mut self, packet: &Packet) {
-        let payload = match packet.payload {
-            Payload::Req(_) => "Req",
-            Payload::Rep(_) => "Rep",
-            Payload::Disc(_) => "Disc",
-            Payload::Done => "Done",
-            Payload::Data(_) => "Data",
-        };
-        let carried = if packet.header.is_some() { "in a tunnel" } else { "bare" };
-        self.met.extend([payload, carried].map(|which| format!("{which} by default")));
+        self.met.extend([payload(packet), carriage(packet)].map(|which| format!("{which} by default")));
     }
 
     fn note_exact(&mut self, at: u64, next: u64) {

@@ -1,6 +1,7 @@
 //! A second implementation of document 01 and requests #101 to #104, #106 and #107 of document 02, written from the
 //! documents alone, and what the tests share.
 
+pub mod arrivals;
 pub mod calculus;
 pub mod compare;
 pub mod damage;
@@ -12,6 +13,7 @@ pub mod listing;
 pub mod lists;
 pub mod network;
 pub mod networks;
+pub mod packets;
 pub mod program;
 pub mod random;
 pub mod recorder;

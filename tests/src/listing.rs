@@ -1,5 +1,6 @@
 //! Listings written by hand: calls, each with its answer.
 
+use crate::network::route_form;
 use std::ops::RangeInclusive;
 
 /// The lines of an answer have newlines between.
@@ -9,9 +10,33 @@ pub fn exchanges(lines: &[(&str, &str)]) -> Listing {
     lines.iter().map(|(call, answer)| (call.to_string(), answer.to_string())).collect()
 }
 
+/// Calls that are all accepted.
+pub fn accepted(calls: impl IntoIterator<Item = impl Into<String>>) -> Listing {
+    calls.into_iter().map(|call| (call.into(), "(ok)".to_string())).collect()
+}
+
+pub fn host(node: u64) -> String {
+    format!("(node {node} host (has) (needs))")
+}
+
+pub fn gate(node: u64) -> String {
+    format!("(node {node} gate (has) (needs))")
+}
+
+/// Nodes 1 to `last` in a row, hosts at both ends and gateways between, with every route.
+pub fn chain(last: u64) -> Listing {
+    let nodes = (1..=last).map(|node| if node == 1 || node == last { host(node) } else { gate(node) });
+    let pairs = (1..=last).flat_map(|at| (1..=last).map(move |destination| (at, destination)));
+    let routes = pairs.filter(|(at, destination)| at != destination).map(|(at, destination)| {
+        let next = if destination > at { at + 1 } else { at - 1 };
+        route_form(at, destination, next)
+    });
+    accepted(nodes.chain(routes))
+}
+
 /// Steps of one session.
-pub fn steps(session: u64, steps: &[(u64, &str)]) -> Listing {
-    steps.iter().map(|(item, answer)| (format!("(step {session} {item})"), answer.to_string())).collect()
+pub fn steps(session: u64, steps: &[(u64, impl AsRef<str>)]) -> Listing {
+    steps.iter().map(|(item, answer)| (format!("(step {session} {item})"), answer.as_ref().to_string())).collect()
 }
 
 /// Steps of items that each make the next number.
@@ -26,6 +51,23 @@ pub fn default_moves(session: u64, items: RangeInclusive<u64>) -> Listing {
 
 fn moves_that_say(session: u64, items: RangeInclusive<u64>, said: &str) -> Listing {
     items.map(|item| (format!("(step {session} {item})"), format!("(made {}{said})", item + 1))).collect()
+}
+
+/// The steps of an establishment between neighbours, where only its session's set-up makes items, from the first to this one of
+/// its 18: 3 and 6 are the waits; 9 comes up with Req, 11 is the responder's grant; 15 comes up with Rep, 17 is the initiator's
+/// grant, 18 the ack.
+pub fn establishment(session: u64, nth: u64, last: u64) -> Listing {
+    let item = |item: u64| 18 * (nth - 1) + item;
+    let begin = steps(
+        session,
+        &[
+            (item(1), format!("(made {})", item(2))),
+            (item(2), format!("(made {} {})", item(3), item(4))),
+            (item(4), format!("(made {} {})", item(5), item(6))),
+            (item(5), format!("(made {})", item(7))),
+        ],
+    );
+    [begin, moves(session, item(7)..=item(last))].concat()
 }
 
 /// A show of these associations.

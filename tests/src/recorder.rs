@@ -15,6 +15,15 @@ pub struct Recorder {
 }
 
 impl Recorder {
+    /// After these calls, which are answered as written.
+    pub fn after(listing: &[(String, String)]) -> Self {
+        let mut recorder = Recorder::default();
+        for (call, answer) in listing {
+            assert_eq!(&recorder.call(call), answer, "{call}");
+        }
+        recorder
+    }
+
     pub fn call(&mut self, call: impl Into<String>) -> String {
         let call = call.into();
         let answer = self.simulator.call(call.as_bytes()).join("\n");

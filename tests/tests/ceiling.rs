@@ -22,14 +22,14 @@ const KINDS: &str = "Done (opened)|Initiator (denied)|Responder (denied)|Disc (l
 
 /// The longest set-up that a Done ends, in a network of 32 nodes: no way has over 31 hops. Disc goes 31 hops and begins 8
 /// establishments; Req and Done go 31 hops to each tunnel point; Rep goes 30 to a gateway, for the node after it has the 31,
-/// and the last Rep goes Disc's 24 from the last gateway. A way has out, its hops, the wire's last step, up and in.
+/// and the last Rep goes Disc's 24 from the last gateway. A way has out, its hops, the wire's last step and up.
 const LONGEST: u64 = (31 + 8) + 8 + 8 * way(31) + 7 * way(30) + way(24) + 8 * 5 + 8 * way(31);
 /// The longest that is exhausted: in a circle of 31 nodes Disc goes 29 hops, then 1 and 30 in turn up to the ninth gateway, and
 /// only the first Rep has fewer than 31.
 const LONGEST_EXHAUSTED: u64 = (29 + 4 * (1 + 30) + 9) + 8 + 8 * way(31) + way(30) + 7 * way(31) + 8 * 5;
 
 const fn way(hops: u64) -> u64 {
-    1 + hops + 1 + 1 + 1
+    1 + hops + 1 + 1
 }
 
 /// The count by the text alone: the numbers that a send makes, and that a step of such a number makes, are Data's.
@@ -266,8 +266,8 @@ fn longest_way(first: &[u64], destination: u64) -> Vec<Route> {
 
 #[test]
 fn ceiling_is_the_documents() {
-    assert_eq!(CEILING, 8 * 111 + 8 * 36);
-    assert_eq!(CEILING, 1176);
+    assert_eq!(CEILING, 8 * 109 + 8 * 35);
+    assert_eq!(CEILING, 1152);
 }
 
 /// Client 1, gateways 2 to 8, server 9; hosts 10 to 32 lie between the last gateway and the server.
@@ -277,7 +277,7 @@ fn longest_set_up() {
     let to_gateways = (2..=8).flat_map(|gateway| longest_way(&[gateway + 1, gateway - 1], gateway));
     let to_server = longest_way(&[1, 2, 3, 4, 5, 6, 7, 8], 9);
     let routes = to_client.into_iter().chain(to_gateways).chain(to_server).collect();
-    assert_eq!(LONGEST, 913);
+    assert_eq!(LONGEST, 889);
     check_longest(&[2, 3, 4, 5, 6, 7, 8], (1, 9), routes, LONGEST, "Done (opened)");
 }
 
@@ -286,7 +286,7 @@ fn longest_set_up() {
 fn longest_exhausted_set_up() {
     let circle: Vec<u64> = (1..=31).chain([1]).collect();
     let ways = [longest_way(&[30], 1), longest_way(&[31, 1], 30), longest_way(&[30], 31), routes_along(&circle, 32)];
-    assert_eq!(LONGEST_EXHAUSTED, 769);
+    assert_eq!(LONGEST_EXHAUSTED, 753);
     check_longest(&[30, 31], (1, 32), ways.concat(), LONGEST_EXHAUSTED, "Disc (lost 6)");
 }
 

@@ -2,7 +2,7 @@
 //! choose other lists.
 
 use simulator_tests::compare::{check, difference, is_network, made};
-use simulator_tests::listing::{default_moves, exchanges, moves, steps, Listing};
+use simulator_tests::listing::{accepted, default_moves, exchanges, gate, host, moves, steps, Listing};
 use simulator_tests::lists::{input, list, LateNetwork};
 use simulator_tests::network::{route_form, LookUp, Network};
 use simulator_tests::program;
@@ -10,19 +10,6 @@ use simulator_tests::random::{for_each_index, setting};
 use simulator_tests::recorder::{Recorder, NONE};
 use simulator_tests::simulator::Simulator;
 use std::collections::BTreeSet;
-
-fn host(node: u64) -> String {
-    format!("(node {node} host (has) (needs))")
-}
-
-fn gate(node: u64) -> String {
-    format!("(node {node} gate (has) (needs))")
-}
-
-/// Calls that are all accepted.
-fn accepted(calls: impl IntoIterator<Item = impl Into<String>>) -> Listing {
-    calls.into_iter().map(|call| (call.into(), "(ok)".to_string())).collect()
-}
 
 /// Hosts 1 to 4, and these routes.
 fn four_hosts(routes: &[&str]) -> Listing {
@@ -117,15 +104,6 @@ fn tour() -> Listing {
     accepted(nodes.chain(uplinks).chain(downlinks).chain([route_form(10, 0, 20), route_form(20, 0, 10)]))
 }
 
-/// A recorder that has made these calls.
-fn after(listing: &[(String, String)]) -> Recorder {
-    let mut recorder = Recorder::default();
-    for (call, answer) in listing {
-        assert_eq!(&recorder.call(call), answer, "{call}");
-    }
-    recorder
-}
-
 /// The numbers that were made by default.
 fn made_by_default(listing: &[(String, String)]) -> Vec<u64> {
     listing.iter().filter(|(_, answer)| answer.ends_with(" default)")).flat_map(|(_, answer)| made(answer)).collect()
@@ -135,17 +113,17 @@ fn made_by_default(listing: &[(String, String)]) -> Vec<u64> {
 /// from 10, Req from 20 and from 21, Rep from 1 and from 10, Done from 21 and from 20.
 #[test]
 fn tour_opens_from_end_to_end() {
-    let mut recorder = after(&tour());
+    let mut recorder = Recorder::after(&tour());
     recorder.call("(open 1 1 21)");
     assert_eq!(recorder.drive(1, NONE), "(opened)");
-    assert_eq!(recorder.listing.last(), Some(&("(step 1 75)".to_string(), "(opened)".to_string())));
-    assert_eq!(made_by_default(&recorder.listing), [2, 15, 22, 28, 35, 48, 63, 68]);
+    assert_eq!(recorder.listing.last(), Some(&("(step 1 66)".to_string(), "(opened)".to_string())));
+    assert_eq!(made_by_default(&recorder.listing), [2, 14, 20, 26, 32, 44, 57, 61]);
     check(&recorder.listing);
 }
 
 #[test]
 fn tour_opens_between_all_venues() {
-    let mut recorder = after(&tour());
+    let mut recorder = Recorder::after(&tour());
     for (client, server) in VENUES.into_iter().flat_map(|client| VENUES.map(|server| (client, server))) {
         if client == server {
             continue;

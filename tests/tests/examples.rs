@@ -41,5 +41,5 @@ fn length_of_each_set_up() {
             lengths.push((answer, simulator.set_up_steps(1), simulator.set_up_steps(2)));
         }
     }
-    assert_eq!(lengths, [("(opened)".to_string(), 71, 0), ("(lost 3)".to_string(), 71, 12)]);
+    assert_eq!(lengths, [("(opened)".to_string(), 62, 0), ("(lost 3)".to_string(), 62, 11)]);
 }

@@ -1,29 +1,14 @@
 //! Set-up through a chain of gateways, and data both ways after it, on both implementations.
 
 use simulator_tests::compare::check;
+use simulator_tests::listing::chain;
 use simulator_tests::recorder::{Recorder, NONE};
-
-/// Nodes 1 to `last` in a row, hosts at both ends and gateways between, with every route.
-fn chain(last: u64) -> Recorder {
-    let mut recorder = Recorder::default();
-    for node in 1..=last {
-        let kind = if node == 1 || node == last { "host" } else { "gate" };
-        recorder.call(format!("(node {node} {kind} (has) (needs))"));
-    }
-    for (at, destination) in (1..=last).flat_map(|at| (1..=last).map(move |destination| (at, destination))) {
-        if at != destination {
-            let next = if destination > at { at + 1 } else { at - 1 };
-            recorder.call(format!("(route {at} {destination} {next})"));
-        }
-    }
-    recorder
-}
 
 #[test]
 fn up_to_seven_gateways_open_and_deliver() {
     for gateways in 0..=7 {
         let last = gateways + 2;
-        let mut recorder = chain(last);
+        let mut recorder = Recorder::after(&chain(last));
         recorder.call(format!("(open 1 1 {last})"));
         assert_eq!(recorder.drive(1, NONE), "(opened)", "{gateways} gateways");
         recorder.call("(send 1 0 70)");
@@ -40,7 +25,7 @@ fn up_to_seven_gateways_open_and_deliver() {
 /// The ninth establishment is not begun; a close lets the next set-up begin again from the first.
 #[test]
 fn eight_gateways_are_too_many() {
-    let mut recorder = chain(10);
+    let mut recorder = Recorder::after(&chain(10));
     for _ in 0..2 {
         recorder.call("(open 1 1 10)");
         assert_eq!(recorder.drive(1, NONE), "(lost 6)");
@@ -55,7 +40,7 @@ fn eight_gateways_are_too_many() {
 /// set-up's own.
 #[test]
 fn eight_sessions_at_their_fullest() {
-    let mut recorder = chain(9);
+    let mut recorder = Recorder::after(&chain(9));
     // items 2 to 13 are the data
     let data = 2..=13;
     for session in 1..=8 {

@@ -129,13 +129,13 @@ fn set_up_of_a_spent_session_stays() {
 fn send_to_999999() {
     let begin = exchanges(&[("(open 1 1 2)", "(made 999985)")]);
     let end = exchanges(&[
-        ("(step 1 999990)", "(no 10)"),
+        ("(step 1 999989)", "(no 10)"),
         ("(step 1 999999)", "(no 10)"),
         ("(send 1 1 7)", "(no 10)"),
-        ("(step 1 999990)", "(no 10)"),
+        ("(step 1 999989)", "(no 10)"),
     ]);
-    let received = [sends(999_986..=999_986), steps_below(1, 999_987..=999_990)].concat();
-    check_after(999_984, &[begin, received, sends(999_991..=999_999), end, close_of_spent()].concat());
+    let received = [sends(999_986..=999_986), steps_below(1, 999_987..=999_989)].concat();
+    check_after(999_984, &[begin, received, sends(999_990..=999_999), end, close_of_spent()].concat());
 }
 
 /// At 999,998 a default moves a packet, and no longer once the numbers are spent.

@@ -18,8 +18,8 @@ fn pair() -> Listing {
     ])
 }
 
-/// Listing B's steps after the open. Items 3 and 6 are the waits; item 12 is the responder's grant, 19 the initiator's.
-const SET_UP: [(u64, &str); 23] = [
+/// Listing B's steps after the open. Items 3 and 6 are the waits; item 11 is the responder's grant, 17 the initiator's.
+const SET_UP: [(u64, &str); 20] = [
     (1, "(made 2)"),
     (2, "(made 3 4)"),
     (4, "(made 5 6)"),
@@ -39,10 +39,7 @@ const SET_UP: [(u64, &str); 23] = [
     (19, "(made 20)"),
     (20, "(made 21)"),
     (21, "(made 22)"),
-    (22, "(made 23)"),
-    (23, "(made 24)"),
-    (24, "(made 25)"),
-    (25, "(opened)"),
+    (22, "(opened)"),
 ];
 
 fn a() -> Listing {
@@ -75,13 +72,13 @@ fn opened(session: u64) -> Listing {
 
 /// Session 1 up to and with the responder's grant.
 fn half_open() -> Listing {
-    [open(1), steps(1, &SET_UP[..10])].concat()
+    [open(1), steps(1, &SET_UP[..9])].concat()
 }
 
 /// Data after the responder's grant that reaches node 2 before the initiator's.
 fn early_data() -> Listing {
-    let send = exchanges(&[("(send 1 0 77)", "(made 14)")]);
-    let data = steps(1, &[(14, "(made 15)"), (15, "(made 16)"), (16, "(made 17)"), (17, "(lost 4)")]);
+    let send = exchanges(&[("(send 1 0 77)", "(made 13)")]);
+    let data = steps(1, &[(13, "(made 14)"), (14, "(made 15)"), (15, "(made 16)"), (16, "(lost 4)")]);
     [send, data].concat()
 }
 
@@ -100,7 +97,7 @@ fn a_waits_used_up_items_and_reopening() {
 }
 
 #[test]
-fn b_item_25_opens() {
+fn b_item_22_opens() {
     check(&b());
 }
 
@@ -136,8 +133,8 @@ fn e_data_from_before_any_row_is_lost() {
         let answer = simulator.call(call.as_bytes()).concat();
         calls.push((call, answer));
     }
-    assert_eq!(calls.last(), Some(&("(step 1 27)".to_string(), "(opened)".to_string())));
-    let received = steps(1, &[(3, "(made 28)"), (28, "(made 29)"), (29, "(made 30)"), (30, "(lost 5)")]);
+    assert_eq!(calls.last(), Some(&("(step 1 24)".to_string(), "(opened)".to_string())));
+    let received = steps(1, &[(3, "(made 25)"), (25, "(made 26)"), (26, "(lost 5)")]);
     check(&[calls, received].concat());
 }
 
@@ -145,7 +142,7 @@ fn e_data_from_before_any_row_is_lost() {
 fn f_a_missing_credential_is_denied() {
     let mut network = pair();
     network[0].0 = "(node 1 host (has) (needs 5))".to_string();
-    check(&[network, open(1), steps(1, &SET_UP[..8]), steps(1, &[(11, "(denied)")])].concat());
+    check(&[network, open(1), steps(1, &SET_UP[..7]), steps(1, &[(10, "(denied)")])].concat());
 }
 
 #[test]
@@ -192,6 +189,6 @@ fn steps_since_the_open() {
     let a = a();
     let after_each_from_the_open: Vec<u64> = (4..=a.len()).map(|calls| steps(&a[..calls])).collect();
     assert_eq!(after_each_from_the_open, [0, 1, 2, 2, 2, 2, 2, 0]);
-    assert_eq!(steps(&b()), 23);
-    assert_eq!(steps(&c()), 10);
+    assert_eq!(steps(&b()), 20);
+    assert_eq!(steps(&c()), 9);
 }

@@ -171,14 +171,13 @@ fn send_beyond_the_limit() {
         ("(step 1 14)", "(made 15)"),
         ("(send 1 0 1)", "(no 13)"),
         ("(step 1 15)", "(made 16)"),
-        ("(step 1 16)", "(made 17)"),
         ("(send 1 0 1)", "(no 13)"),
-        ("(step 1 17)", "(delivered 2)"),
-        ("(send 1 0 1)", "(made 18)"),
+        ("(step 1 16)", "(delivered 2)"),
+        ("(send 1 0 1)", "(made 17)"),
         ("(send 1 0 1)", "(no 13)"),
         ("(close 1)", "(closed)"),
-        ("(open 1 1 2)", "(made 19)"),
-        ("(send 1 0 1)", "(made 20)"),
+        ("(open 1 1 2)", "(made 18)"),
+        ("(send 1 0 1)", "(made 19)"),
     ];
     script.extend(rest.map(|(call, answer)| (call.to_string(), answer.to_string())));
     let network = NETWORK.map(|(call, answer)| (call.to_string(), answer.to_string()));

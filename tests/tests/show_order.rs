@@ -1,7 +1,7 @@
 //! Show's order, on both implementations: by node, then in before out, then by peer. Random lists test it too.
 
 use simulator_tests::compare::{check, difference};
-use simulator_tests::listing::{exchanges, moves, show, steps, Listing};
+use simulator_tests::listing::{establishment, exchanges, moves, show, Listing};
 
 /// Hosts 2, 10 and 30 around gateway 9.
 const NETWORK: [(&str, &str); 12] = [
@@ -20,19 +20,13 @@ const NETWORK: [(&str, &str); 12] = [
 ];
 
 /// The steps of a set-up over the gateway, to each grant and with it: 0 is the client's and 1 the gateway's of their
-/// tunnel, 2 the gateway's and 3 the server's of theirs. Items 3, 6, 23 and 26 are the waits.
+/// tunnel, 2 the gateway's and 3 the server's of theirs.
 fn to_grant(session: u64, grant: usize) -> Listing {
     match grant {
-        0 => {
-            let begin = steps(session, &[(1, "(made 2)"), (2, "(made 3 4)"), (4, "(made 5 6)"), (5, "(made 7)")]);
-            [begin, moves(session, 7..=12)].concat()
-        }
-        1 => moves(session, 13..=19),
-        2 => {
-            let begin = steps(session, &[(22, "(made 23 24)"), (24, "(made 25 26)"), (25, "(made 27)")]);
-            [moves(session, 20..=21), begin, moves(session, 27..=32)].concat()
-        }
-        _ => moves(session, 33..=39),
+        0 => establishment(session, 1, 11),
+        1 => moves(session, 12..=17),
+        2 => [moves(session, 18..=18), establishment(session, 2, 11)].concat(),
+        _ => moves(session, 30..=35),
     }
 }
 
