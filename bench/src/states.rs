@@ -49,7 +49,7 @@ pub fn open_sessions(sessions: u64, calls: usize) -> Cycles {
         recorder.set_up(session, (host_at(1), host_at(7)));
         send_and_leave(&mut recorder, session, MOST_DATA);
     }
-    Cycles::new(recorder, CLIENT, 16, "(delivered 7)", calls)
+    Cycles::new(recorder, CLIENT, 13, "(delivered 7)", calls)
 }
 
 /// The session has so many rows, four for each establishment that its set-up along eight gateways has done; the next

@@ -32,8 +32,8 @@ pub enum Side {
 }
 
 // What a session has pending, each as document 01 writes it: wire(a, packet, h), out(a, packet), up(a, packet),
-// est(a, b, e), auth(a, q, e, side), grant(a, q, e, side), ack(a, e), dwait(a), ewait(a, e). Its in(a, packet, q) is
-// part of up since request #107. `Free` is a place with no item.
+// est(a, b, e), auth(a, q, e, side), grant(a, q, e, side), ack(a, e), dwait(a), ewait(a, e).
+// Document 01's in(a, packet, q) is part of up since request #107. `Free` is a place with no item.
 pub enum Item {
     Free,
     Wire(u8, Packet, u8),

@@ -20,7 +20,7 @@ pub struct Session {
     pub last: ItemNumber,
 }
 
-// Who is at the other end of a row's tunnel, or of the one that a packet came through: a node, or 0 for none.
+// Document 01's peer of a row, or q of a header: a node, or 0 for none. With request #110 there are up to four.
 pub struct Peers {
     pub first: u8,
 }

@@ -57,10 +57,14 @@ fn admitted(users: &[u16; 2048], rows: [Row; 32], held: u8, a: u8, h: Header) ->
     }
 }
 
-fn same_peers(x: Peers, y: Peers) -> bool
-    ensures { λ r. ⌜ r ≡ row.samePeers x y ⌝ }
+// Whether the packet came through the tunnel of its matching in row, or through none where there is no row.
+fn matched(rows: [Row; 32], held: u8, a: u8, p: Packet) -> bool
+    ensures { λ r. ⌜ r ≡ spec.matched (take held rows) a p ⌝ }
 {
-    x.first == y.first
+    let header = p.header;
+    let through = newest(rows, held, false, a, p);
+    let from = stripped(header);
+    through.first == from.first
 }
 
 // A packet from `b`, received at its destination `a`.
@@ -79,7 +83,7 @@ fn received(a: u8, b: u8, y: Payload) -> Effect
     }
 }
 
-// up(a, packet): strip, admit, match, then forward or receive.
+// up(a, packet): admit, match, then strip and forward, or receive.
 pub fn up(users: &[u16; 2048], rows: [Row; 32], held: u8, a: u8, p: Packet) -> Effect
     ensures { λ r. ⌜ r ≡ spec.upRule (row.stands (now (users .entry)) false) (take held rows) a p ⌝ }
 {
@@ -88,14 +92,12 @@ pub fn up(users: &[u16; 2048], rows: [Row; 32], held: u8, a: u8, p: Packet) -> E
     if !admitted(users, rows, held, a, header) {
         return lost(Loss::NoTunnel);
     }
-    let inner = under(p, Header::Bare);
-    let from = stripped(header);
-    let through = newest(rows, held, false, a, inner);
-    if !same_peers(through, from) {
+    if !matched(rows, held, a, p) {
         return lost(Loss::WrongTunnel);
     }
-    if p.destination == a {
-        return received(a, p.source, payload);
+    if p.destination != a {
+        let inner = under(p, Header::Bare);
+        return writes(Item::Out(a, inner));
     }
-    writes(Item::Out(a, inner))
+    received(a, p.source, payload)
 }

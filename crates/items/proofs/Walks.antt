@@ -11,7 +11,6 @@ use lib.ListN.{length, getD, drop, drop-of-length-le}
 use lib.Seq.{drop-cons}
 use borrow.Author.Tests.{le-leb}
 use Rattle.model.specs.Lists.{place, tally}
-use Rattle.model.proofs.Checks.{one-le}
 
 -- f holds of none of the first i elements
 pub record Sought {A : Type 0} (f : A → Bool) (l : List A) (i : ℕ) : Type 0 where
@@ -20,7 +19,6 @@ pub record Sought {A : Type 0} (f : A → Bool) (l : List A) (i : ℕ) : Type 0 
 -- f holds of n of the first i elements
 pub record Counted {A : Type 0} (f : A → Bool) (l : List A) (n i : ℕ) : Type 0 where
   pub same : tally f l ≡ n + tally f (drop i l)
-  pub few : n ≤ i
 
 -- what never holds is found nowhere
 pub place-never : {A : Type 0} (l : List A) → place (λ a. false) l ≡ length l
@@ -47,13 +45,13 @@ module _ {A : Type 0} {f : A → Bool} {l : List A} where
       omega (arith, w .same, p)
 
   pub counted-none : Counted f l 0 0
-  counted-none = record { same = sym (zero-add (tally f l)); few = omega arith }
+  counted-none = record { same = sym (zero-add (tally f l)) }
 
   pub counted-more : {n i : ℕ} → Counted f l n i → (z : A) → i < length l → Counted f l (n + cond (f (getD l i z)) 1 0) (i + 1)
   counted-more {n} {i} w z h =
       let b = f (getD l i z) in
       let p : tally f (drop i l) ≡ cond b 1 0 + tally f (drop (suc i) l) = rw (drop-cons l i z) in
-      record { same = rw add-one (omega (arith, w .same, p)); few = omega (arith, w .few, one-le b) }
+      record { same = rw add-one (omega (arith, w .same, p)) }
 
   pub counted-enough : {n i : ℕ} → Counted f l n i → (k : ℕ) → k ≤ n → true ≡ leb k (tally f l)
   counted-enough w k h = sym (le-leb k (tally f l) (omega (arith, w .same)))

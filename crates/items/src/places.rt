@@ -98,7 +98,7 @@ pub fn find(items: [Slot; 16], w: Wanted) -> usize
     i
 }
 
-// Whether 12 are packets with Data. The walk goes by what it counts: one that always makes sixteen turns is unrolled by the
+// Whether 12 or more are packets with Data. The walk goes by what it counts: one that always makes sixteen turns is unrolled by the
 // compiler, and then every part is moved place by place.
 pub fn is_full(items: [Slot; 16]) -> bool
     ensures { λ r. ⌜ r ≡ leb 12 (spec.howManyItems spec.isDataItem items) ⌝ }

@@ -22,7 +22,7 @@ use Rattle.model.specs.Lists.{All}
 use Rattle.model.specs.Network.{isGateway, nextHop, hasAllNeeded}
 use Rattle.model.specs.Packet.{hopLimit, bare, under}
 use Rattle.model.specs.Row.{held, newest, admits, areNodes}
-use Rattle.model.specs.Rules.{lost, writes, isExhausted, begin, discovers, headerTo, unprotected, onward, wireRule, outRule, received, upRule, estRule, authRule, grantRule, acknowledged, ackRule, rule}
+use Rattle.model.specs.Rules.{lost, writes, isExhausted, begin, discovers, headerTo, unprotected, onward, wireRule, outRule, admitted, matched, received, upRule, estRule, authRule, grantRule, acknowledged, ackRule, rule}
 use Rattle.model.specs.State.{begunAfter, addedRows}
 use Rattle.model.specs.Termination.{tripSteps, ceiling, isActive}
 use Rattle.model.proofs.Discovers.{server-discovers, not-exhausted}
@@ -219,12 +219,13 @@ module _ (net : Network) (t : Part) (n : ℕ) where
         (λ o. either After (eqb h 0) (λ z. loses few) (λ z. moved-on (nextHop net y q) p h few (doneOnWire x k q s (nextNode (nextHop net y q)) (h - 1) w (omega (arith, eqb-false h 0 z))))))
     advances i (doneUp x k q s y w m) =
         let few : n + 1 ≤ ceiling = omega arith in
-        let lets = areNodes y x && admits (held t) y x in
-        let same = eqb (newest (held t) false y (bare d c Done) .first) x in
-        either After (not lets) (λ e. loses few)
-        (λ e. either After (not same) (λ g. loses few)
+        let p = under (bare d c Done) (Tunnel x q s) in
+        let admit = admitted areNodes (held t) y (p .header) in
+        let match = matched (held t) y p in
+        either After (not admit) (λ e. loses few)
+        (λ e. either After (not match) (λ g. loses few)
         (λ g. either After (not (eqb c y))
-        (λ f. done-through x k y w m (both (areNodes y x) (admits (held t) y x) (not-false lets e) .0) (eqb-true _ x (not-false same g)) (eqb-false c y (not-true (eqb c y) f)))
+        (λ f. done-through x k y w m (both (areNodes y x) (admits (held t) y x) (not-false admit e) .0) (eqb-true _ x (not-false match g)) (eqb-false c y (not-true (eqb c y) f)))
         (λ f. record { counted = few; written = tt; added = tt })))
     advances i (doneBare v l m) =
         on-trip (bare d c Done) (omega (arith, trip-some v))

@@ -17,7 +17,6 @@ use Rattle.calculus.specs.declared.network.NextHop.the-variants.{Exact, Default
 use Rattle.calculus.specs.declared.packet.Payload.{Payload}
 use Rattle.calculus.specs.declared.packet.Payload.the-variants.{Req, Rep, Disc, Done, Data}
 use Rattle.calculus.specs.declared.packet.Header.{Header}
-use Rattle.calculus.specs.declared.packet.Header.the-variants.{Bare}
 use Rattle.calculus.specs.declared.packet.Packet.{Packet}
 use Rattle.calculus.specs.declared.packet.Side.{Side}
 use Rattle.calculus.specs.declared.packet.Side.the-variants.{Responder, Initiator}
@@ -28,8 +27,8 @@ use Rattle.calculus.specs.declared.session.Session.{Session}
 use Rattle.calculus.specs.declared.state.Part.{Part}
 use Rattle.model.specs.Network.{isGateway, nextHop, hasAllNeeded}
 use Rattle.model.specs.Packet.{bare, under, target, isData}
-use Rattle.model.specs.Row.{held, samePeers, newest}
-use Rattle.model.specs.Rules.{writesFor, discovers, isExhausted, unprotected, onward, wireRule, outRule, stripped, admitted, received, upRule, estRule, authRule, grantRule, ackRule, rule}
+use Rattle.model.specs.Row.{held}
+use Rattle.model.specs.Rules.{writesFor, discovers, isExhausted, unprotected, onward, wireRule, outRule, admitted, matched, received, upRule, estRule, authRule, grantRule, ackRule, rule}
 use Rattle.model.specs.State.{writtenCount, stageAfter, begunAfter, addedRows}
 use Rattle.model.specs.SetUp.{isPending}
 use Rattle.model.proofs.Checks.{one}
@@ -87,7 +86,7 @@ unfolding uses space carries active due upRule
 up-law standing s rows a p =
     let P = Law s (Up a p) in
     either P (not (admitted standing rows a (p .header))) (λ e. omega arith)
-    (λ e. either P (not (samePeers (newest rows false a (under p Bare)) (stripped (p .header)))) (λ e. omega arith)
+    (λ e. either P (not (matched rows a p)) (λ e. omega arith)
     (λ e. either P (not (eqb (p .destination) a)) (λ e. omega arith)
     (λ e. subst (λ (x : ℕ). Law s (Up a (under (bare (p .source) x (p .payload)) (p .header))) (received a (p .source) (p .payload)))
     (sym (eqb-true (p .destination) a (not-false (eqb (p .destination) a) e))) (received-law s a (p .source) (p .payload) (p .header)))))

@@ -1,4 +1,5 @@
--- Every rule writes items and rows that name nodes only, no Disc but on a wire, and no wire of over 32 hops. Assumes nothing.
+-- Every rule writes items and rows that name nodes only, headers aside, no Disc but on a wire, and no wire of over 32 hops. Assumes
+-- nothing.
 use mathlib.Core.Path.{_≡_, refl, sym, ap, _∙_}
 use mathlib.Core.Bool.{Bool, true, false, not}
 use mathlib.Core.List.{List}
@@ -26,9 +27,9 @@ use Rattle.calculus.specs.declared.session.Row.{Row}
 use Rattle.calculus.specs.declared.session.Session.{Session}
 use Rattle.calculus.specs.declared.state.Part.{Part}
 use Rattle.model.specs.Network.{isGateway, nextHop, hasAllNeeded}
-use Rattle.model.specs.Packet.{under, headedTo, target}
-use Rattle.model.specs.Row.{held, samePeers, newest, areNodes}
-use Rattle.model.specs.Rules.{discovers, lastPoint, isExhausted, unprotected, onward, wireRule, outRule, stripped, admitted, received, upRule, estRule, authRule, grantRule, ackRule, rule}
+use Rattle.model.specs.Packet.{headedTo, target}
+use Rattle.model.specs.Row.{held, areNodes}
+use Rattle.model.specs.Rules.{discovers, lastPoint, isExhausted, unprotected, onward, wireRule, outRule, admitted, matched, received, upRule, estRule, authRule, grantRule, ackRule, rule}
 use Rattle.model.specs.State.{addedRows}
 use Rattle.model.specs.SetUp.{isDisc, LeadsToGiven}
 use Rattle.model.specs.Lists.{All}
@@ -129,7 +130,7 @@ unfolding upRule
 up-named v standing rows a p o =
     let P = EffectNamed v in
     either P (not (admitted standing rows a (p .header))) (λ e. (tt, tt))
-    (λ e. either P (not (samePeers (newest rows false a (under p Bare)) (stripped (p .header)))) (λ e. (tt, tt))
+    (λ e. either P (not (matched rows a p)) (λ e. (tt, tt))
     (λ e. either P (not (eqb (p .destination) a)) (λ e. (o, tt))
     (λ e. received-named v a (p .source) (p .payload) (o .0) (o .1 .0))))
 
@@ -147,16 +148,16 @@ ack-named s a c d h = (
 )
 
 module _ (n : Network) (hn : Consistent n) (standing : ℕ → ℕ → Bool) (t : Part) where
-  pub rule-named : All RowNamed (held t) → Node (t .session .client) → Node (t .session .server) → (i : Item) → Named (t .session .server) i
+  pub rule-named : Node (t .session .client) → Node (t .session .server) → (i : Item) → Named (t .session .server) i
       → EffectNamed (t .session .server) (rule n standing t i)
   unfolding rule estRule authRule
-  rule-named h c d Free o = (tt, tt)
-  rule-named h c d (Wire a p x) o = wire-named n (t .session) a p x (hop-given n hn a (target p)) o
-  rule-named h c d (Out a p) o = out-named (t .session .server) (held t) a p o
-  rule-named h c d (Up a p) o = up-named (t .session .server) standing (held t) a p o
-  rule-named h c d (Est a b e) o = (((o .0, o, refl), tt), tt)
-  rule-named h c d (Auth a q e side) o = either (EffectNamed (t .session .server)) (hasAllNeeded n a q) (λ e. (o, tt)) (λ e. (tt, tt))
-  rule-named h c d (Grant a q e side) o = grant-named (t .session .server) (t .session) a q e side (o .0) (o .1)
-  rule-named h c d (Ack a e) o = ack-named (t .session) a c d o
-  rule-named h c d (Dwait a) o = (tt, tt)
-  rule-named h c d (Ewait a e) o = (tt, tt)
+  rule-named c d Free o = (tt, tt)
+  rule-named c d (Wire a p x) o = wire-named n (t .session) a p x (hop-given n hn a (target p)) o
+  rule-named c d (Out a p) o = out-named (t .session .server) (held t) a p o
+  rule-named c d (Up a p) o = up-named (t .session .server) standing (held t) a p o
+  rule-named c d (Est a b e) o = (((o .0, o, refl), tt), tt)
+  rule-named c d (Auth a q e side) o = either (EffectNamed (t .session .server)) (hasAllNeeded n a q) (λ e. (o, tt)) (λ e. (tt, tt))
+  rule-named c d (Grant a q e side) o = grant-named (t .session .server) (t .session) a q e side (o .0) (o .1)
+  rule-named c d (Ack a e) o = ack-named (t .session) a c d o
+  rule-named c d (Dwait a) o = (tt, tt)
+  rule-named c d (Ewait a e) o = (tt, tt)

@@ -141,7 +141,7 @@ module _ (t : Part) (h : Sane t) where
         let v = t .session .server in
         let f = rule n standing t i in
         let ends = h .ends u in
-        let k = rule-named n hn standing t (h .rows) (ends .0) (ends .1) i (all-get (At (Named v)) (t .items) at blankSlot (h .items) tt) in
+        let k = rule-named n hn standing t (ends .0) (ends .1) i (all-get (At (Named v)) (t .items) at blankSlot (h .items) tt) in
         record {
           roomy = roomy-step t (h .roomy) at (leb-false 16 at b) w f (rule-law n standing t i);
           rows = rw (held-applied t (h .roomy .whole) at f)

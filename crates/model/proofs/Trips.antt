@@ -17,8 +17,8 @@ use Rattle.calculus.specs.declared.packet.Item.the-variants.{Wire, Out, Up}
 use Rattle.calculus.specs.declared.state.Part.{Part}
 use Rattle.model.specs.Network.{isGateway, nextHop}
 use Rattle.model.specs.Packet.{hopLimit, bare}
-use Rattle.model.specs.Row.{noPeers, samePeers, held, newest, areNodes}
-use Rattle.model.specs.Rules.{lost, writes, discovers, unprotected, onward, wireRule, outRule, received, upRule, rule}
+use Rattle.model.specs.Row.{noPeers, held, newest, areNodes}
+use Rattle.model.specs.Rules.{lost, writes, discovers, unprotected, onward, wireRule, outRule, matched, received, upRule, rule}
 use Rattle.model.specs.Termination.{tripSteps}
 
 -- where it can stand, and how many steps can follow until it is received
@@ -55,4 +55,4 @@ module _ (n : Network) (t : Part) (x z : ℕ) (y : Payload)
       (λ e. either P (unprotected (isGateway n a) packet) (λ e. gone _)
       (λ e. either P (eqb h 0) (λ e. gone _) (λ e. hops (nextHop n a z) h (eqb-false h 0 e) refl))))
   travels none arrived =
-      either (Travels packet 1) (not (samePeers (newest (held t) false z packet) noPeers)) (λ e. gone _) (λ e. rw (eq-eqb z z refl) comes)
+      either (Travels packet 1) (not (matched (held t) z packet)) (λ e. gone _) (λ e. rw (eq-eqb z z refl) comes)

@@ -343,8 +343,8 @@ defaultWayOut =
     ∷ "(step 2 5)" ⇒ "(made 7)" ∷ "(step 2 7)" ⇒ "(lost 3)" ∷ "(route 3 0 1)" ⇒ "(no 5)"
     ∷ []
 
--- #107: 77 and 78 come bare to node 2 before it has a row. The step of up reads the rows, for the header and for the match at one
--- moment: 77 is delivered before the initiator's grant, and 78 behind it is lost 5
+-- #107: 77 and 78 come bare to node 2 before it has a row. One step reads the rows as they stand then: 77, stepped before the
+-- initiator's grant, is delivered; 78, stepped after it, is lost 5
 abbrev pub rowsAtOneMoment : Listing
 rowsAtOneMoment =
     pair ++ "(open 1 1 2)" ⇒ "(made 1)" ∷ session 1 toAuth

@@ -187,24 +187,7 @@ discOfAnAck =
       };
     }
 
--- with one gateway, after the Done's up there: its header is off, and it is to go out again
-abbrev pub sentOutAgain : Moment
-sentOutAgain =
-    record {
-      calls = take 46 throughGateway;
-      sees = record {
-        stage = Stage.SettingUp;
-        ends = some (1, 3);
-        items = item 41 (Out 2 (packet 3 1 Done Bare)) ∷ [];
-        rows = row 1 true 1 3 2 1 ∷ row 1 false 3 1 2 1 ∷ row 2 true 3 1 1 1 ∷ row 2 false 1 3 1 1
-            ∷ row 2 true 1 3 3 2 ∷ row 2 false 3 1 3 2 ∷ row 3 true 3 1 2 2 ∷ row 3 false 1 3 2 2
-            ∷ [];
-        begun = 2;
-        last = 41;
-      };
-    }
-
--- with two, at the end: three tunnels
+-- and at the end, with three tunnels
 abbrev pub endOfThreeTunnels : Moment
 endOfThreeTunnels =
     record {
@@ -219,6 +202,23 @@ endOfThreeTunnels =
             ∷ [];
         begun = 3;
         last = 66;
+      };
+    }
+
+-- with one gateway, after the Done's up there: its header is off, and it is to go out again
+abbrev pub sentOutAgain : Moment
+sentOutAgain =
+    record {
+      calls = take 46 throughGateway;
+      sees = record {
+        stage = Stage.SettingUp;
+        ends = some (1, 3);
+        items = item 41 (Out 2 (packet 3 1 Done Bare)) ∷ [];
+        rows = row 1 true 1 3 2 1 ∷ row 1 false 3 1 2 1 ∷ row 2 true 3 1 1 1 ∷ row 2 false 1 3 1 1
+            ∷ row 2 true 1 3 3 2 ∷ row 2 false 3 1 3 2 ∷ row 3 true 3 1 2 2 ∷ row 3 false 1 3 2 2
+            ∷ [];
+        begun = 2;
+        last = 41;
       };
     }
 
@@ -238,7 +238,7 @@ onlyWaitsAndData =
     }
 
 abbrev pub moments : List Moment
-moments = beforeAck ∷ endOfB ∷ endOfF ∷ middleOfC ∷ endOfC ∷ discOfAnAck ∷ sentOutAgain ∷ endOfThreeTunnels ∷ onlyWaitsAndData ∷ []
+moments = beforeAck ∷ endOfB ∷ endOfF ∷ middleOfC ∷ endOfC ∷ discOfAnAck ∷ endOfThreeTunnels ∷ sentOutAgain ∷ onlyWaitsAndData ∷ []
 
 -- ---- how many steps session 1 took
 

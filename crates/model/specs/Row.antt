@@ -18,11 +18,9 @@ use Rattle.model.specs.Lists.{fold, tally}
 abbrev pub held : Part → List Row
 held t = take (t .session .rows) (t .rows)
 
+-- no peer: 0 is no node
 abbrev pub noPeers : Peers
 noPeers = record { first = 0 }
-
-abbrev pub samePeers : Peers → Peers → Bool
-samePeers x y = eqb (x .first) (y .first)
 
 -- an out row and an in row at a, with the filter (from, to), peer q, of establishment e
 abbrev pub outRow : ℕ → ℕ → ℕ → ℕ → ℕ → Row

@@ -30,7 +30,7 @@ use Rattle.calculus.specs.declared.state.Part.{Part}
 use Rattle.calculus.specs.declared.network.Network.{Network}
 use Rattle.model.specs.Network.{isGateway, nextHop, hasAllNeeded}
 use Rattle.model.specs.Packet.{hopLimit, bare, under, target, isBare, isDataOrDone}
-use Rattle.model.specs.Row.{noPeers, samePeers, held, inRow, outRow, newest, admits, spiOf}
+use Rattle.model.specs.Row.{noPeers, held, inRow, outRow, newest, admits, spiOf}
 
 -- ---- effects
 
@@ -120,15 +120,20 @@ outRule rows a p = writes (Wire a (under p (headerTo a (newest rows true a p))) 
 
 -- ---- up
 
--- the q of "Header from q", none of a bare packet
+-- the q of "Header from q"; of a bare packet none
 abbrev pub stripped : Header → Peers
 stripped Bare = noPeers
 stripped (Tunnel q to i) = record { first = q }
 
--- a packet is bare, or "In(a, q) stands and an in row of this session at a has peer q"
+-- a packet is bare, or "In(a, q) stands", which `standing a q` tells, "and an in row of this session at a has peer q"
 abbrev pub admitted : (ℕ → ℕ → Bool) → List Row → ℕ → Header → Bool
 admitted standing rows a Bare = true
 admitted standing rows a (Tunnel q to i) = standing a q && admits rows a q
+
+-- "the matching in row's peer must be q, or with no row q must be none". No list of calls comes to a header that is admitted and
+-- matches no row
+abbrev pub matched : List Row → ℕ → Packet → Bool
+matched rows a p = eqb (newest rows false a p .first) (stripped (p .header) .first)
 
 -- a packet from b, received at its destination a
 abbrev pub received : ℕ → ℕ → Payload → Effect
@@ -138,15 +143,12 @@ received a b (Disc p) = neverMet
 received a b Done = only Opened
 received a b (Data tag) = only (Delivered tag)
 
--- up(a, packet): "its header test and then what in did, under one number". "Lost 4 is tested before lost 5": the latter where the
--- matching in row's peer is not q, or there is no row and a q. To a q without a row no list of calls comes: the rows that send a packet
--- into a tunnel and those that match it at the tunnel's end come with one establishment
+-- up(a, packet): "its header test and then what in did, under one number. Lost 4 is tested before lost 5"
 unfoldable pub upRule : (ℕ → ℕ → Bool) → List Row → ℕ → Packet → Effect
 upRule standing rows a p =
-    let inner = under p Bare in
     cond (not (admitted standing rows a (p .header))) (lost NoTunnel)
-    (cond (not (samePeers (newest rows false a inner) (stripped (p .header)))) (lost WrongTunnel)
-    (cond (not (eqb (p .destination) a)) (writes (Out a inner))
+    (cond (not (matched rows a p)) (lost WrongTunnel)
+    (cond (not (eqb (p .destination) a)) (writes (Out a (under p Bare)))
     (received a (p .source) (p .payload))))
 
 -- ---- est, auth

@@ -159,7 +159,7 @@ pub record Holds (s : State) (t : Part) : Type 0 where
   -- "and 32 rows": no more stand, and the two rows of a grant find a place
   pub rowPlaces : length (t .rows) ≡ 32
   pub rows : t .session .rows + 2 * howManyItems isGrant (t .items) ≤ 32
-  -- every row names an association of two nodes
+  -- every row names an association of two nodes, so no row's peer is 0, which match answers for none
   pub rowNodes : All (λ r. areNodes (r .node) (r .peers .first) ≡ true) (held t)
   -- "with 8 establishments begun, lost 6"
   pub begun : t .session .begun ≤ 8

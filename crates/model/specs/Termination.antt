@@ -37,7 +37,8 @@ tripSteps = 1 + wireSteps + 1
 abbrev pub establishmentSteps : ℕ
 establishmentSteps = wireSteps + 1 + tripSteps + 1 + 1 + tripSteps + 1 + 1 + 1
 
--- "8 establishments of 111 steps and a Done through 8 tunnels of 36", which #107 makes 109 and 35. Instead of the Done one more Disc can come, which takes fewer
+-- "8 establishments of 111 steps and a Done through 8 tunnels of 36", which #107 makes 109 and 35. Instead of the Done one more Disc
+-- can come, which takes fewer
 abbrev pub ceiling : ℕ
 ceiling = establishmentLimit * establishmentSteps + establishmentLimit * tripSteps
 

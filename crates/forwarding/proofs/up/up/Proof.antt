@@ -15,32 +15,32 @@ unfolding upRule
 returns-2 c =
     simp (
       c .lost2 .ensures,
-      simp (c .before .before .before .newest .ensures, c .before .before .before .before .stripped .ensures, c .before .before .before .before .before .under .ensures) at (join (c .before .before .same-peers .ensures) (not-true _ (c .before .if2 .taken))),
-      join (c .before .before .before .before .before .before .before .admitted .ensures) (not-false _ (c .before .before .before .before .before .before .if1 .left)),
+      join (c .before .before .matched .ensures) (not-true _ (c .before .if2 .taken)),
+      join (c .before .before .before .before .admitted .ensures) (not-false _ (c .before .before .before .if1 .left)),
     )
 
 returns-3 : tie.Need-returns-3
 unfolding upRule
 returns-3 c =
     simp (
-      c .received .ensures,
-      eq-eqb _ _ (c .before .if3 .taken),
-      simp (c .before .before .before .before .before .newest .ensures, c .before .before .before .before .before .before .stripped .ensures, c .before .before .before .before .before .before .before .under .ensures) at (join (c .before .before .before .before .same-peers .ensures) (not-false _ (c .before .before .before .if2 .left))),
-      join (c .before .before .before .before .before .before .before .before .before .admitted .ensures) (not-false _ (c .before .before .before .before .before .before .before .before .if1 .left)),
+      c .writes .ensures,
+      c .before .under .ensures,
+      ne-eqb _ _ (c .before .before .if3 .taken),
+      join (c .before .before .before .before .before .matched .ensures) (not-false _ (c .before .before .before .before .if2 .left)),
+      join (c .before .before .before .before .before .before .before .admitted .ensures) (not-false _ (c .before .before .before .before .before .before .if1 .left)),
     )
 
 returns-4 : tie.Need-returns-4
 unfolding upRule
 returns-4 c =
     simp (
-      c .writes .ensures,
-      c .before .before .before .before .before .before .before .under .ensures,
-      ne-eqb _ _ (c .before .if3 .left),
-      simp (c .before .before .before .before .before .newest .ensures, c .before .before .before .before .before .before .stripped .ensures, c .before .before .before .before .before .before .before .under .ensures) at (join (c .before .before .before .before .same-peers .ensures) (not-false _ (c .before .before .before .if2 .left))),
-      join (c .before .before .before .before .before .before .before .before .before .admitted .ensures) (not-false _ (c .before .before .before .before .before .before .before .before .if1 .left)),
+      c .received .ensures,
+      eq-eqb _ _ (c .before .if3 .left),
+      join (c .before .before .before .before .matched .ensures) (not-false _ (c .before .before .before .if2 .left)),
+      join (c .before .before .before .before .before .before .admitted .ensures) (not-false _ (c .before .before .before .before .before .if1 .left)),
     )
 
 pub up-spec : {M : Type 1} → statement M
 up-spec =
     tie.close
-    (tie.spec (λ c κs. search needs) (λ c κs. search needs) returns (λ c κs. search needs) (λ c κs. search needs) (λ c κs. search needs) (λ c κs. search needs) (λ c κs. search needs) returns-2 (λ c κs. search needs) returns-3 (λ c κs. search needs) returns-4)
+    (tie.spec (λ c κs. search needs) (λ c κs. search needs) returns (λ c κs. search needs) (λ c κs. search needs) returns-2 (λ c κs. search needs) (λ c κs. search needs) returns-3 (λ c κs. search needs) returns-4)
