@@ -1,7 +1,7 @@
 -- What each rule does to the weights of a set-up: the waits, the places, the Data items, the items that are neither, and the rows to
 -- come; and what it begins. Assumes nothing.
 use mathlib.Core.Path.{sym, subst, ap}
-use mathlib.Core.Bool.{Bool, true, false, not, _&&_}
+use mathlib.Core.Bool.{Bool, true, not, _&&_}
 use mathlib.Core.List.{List}
 use Prim.Native.Nat.{ℕ, _+_, _-_, _*_, _≤_}
 use native.Mathlib.Omega.{arith}
