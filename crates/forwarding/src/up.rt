@@ -62,9 +62,11 @@ fn matched(rows: [Row; 32], held: u8, a: u8, p: Packet) -> bool
     ensures { λ r. ⌜ r ≡ spec.matched (take held rows) a p ⌝ }
 {
     let header = p.header;
-    let through = newest(rows, held, false, a, p);
+    let row = newest(rows, held, false, a, p);
     let from = stripped(header);
-    through.first == from.first
+    let peer = row.first;
+    let q = from.first;
+    peer == q
 }
 
 // A packet from `b`, received at its destination `a`.
