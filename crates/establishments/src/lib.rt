@@ -62,7 +62,7 @@ fn acknowledged(s: Session, a: u8) -> Item
         return Item::Out(a, done);
     }
     let disc = bare(s.client, s.server, Payload::Disc(a));
-    Item::Wire(a, disc, 32)
+    Item::Wire(a, disc)
 }
 
 // ack(a, e)

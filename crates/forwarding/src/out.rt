@@ -1,12 +1,18 @@
 // The rule out.
+use calculus::answer::Loss;
 use calculus::effect::Effect;
 use calculus::number::Spi;
+use calculus::packet::HOP_LIMIT;
 use calculus::packet::Header;
 use calculus::packet::Item;
 use calculus::packet::Packet;
 use calculus::session::Peers;
 use calculus::session::Row;
+use effects::effect::lost;
 use effects::effect::writes;
+use items::packet::fewer;
+use items::packet::no_header;
+use items::packet::no_hops_left;
 use items::packet::under;
 use rows::row::newest;
 ghost use mathlib.Core.Path.{_≡_};
@@ -19,22 +25,37 @@ fn header_to(a: u8, x: Peers) -> Header
 {
     let q = x.first;
     if q == 0 {
-        return Header::Bare;
+        return no_header();
     }
     let spi = Spi::between(q, a);
-    Header::Tunnel {
+    Header {
         from: a,
         to: q,
         spi,
+        hops: HOP_LIMIT,
     }
 }
 
-// out(a, packet)
-pub fn out(rows: [Row; 32], held: u8, a: u8, p: Packet) -> Effect
-    ensures { λ r. ⌜ r ≡ spec.outRule (take held rows) a p ⌝ }
+// The packet through the tunnel of its matching out row, or bare.
+fn sent(rows: [Row; 32], held: u8, a: u8, p: Packet) -> Effect
+    ensures { λ r. ⌜ r ≡ spec.sent (take held rows) a p ⌝ }
 {
     let through = newest(rows, held, true, a, p);
     let header = header_to(a, through);
     let packet = under(p, header);
-    writes(Item::Wire(a, packet, 32))
+    writes(Item::Wire(a, packet))
+}
+
+// out(a, packet): a node that did not create the packet takes one of its hops.
+pub fn out(rows: [Row; 32], held: u8, a: u8, p: Packet) -> Effect
+    ensures { λ r. ⌜ r ≡ spec.outRule (take held rows) a p ⌝ }
+{
+    if a == p.source {
+        return sent(rows, held, a, p);
+    }
+    if no_hops_left(p) {
+        return lost(Loss::HopLimit);
+    }
+    let again = fewer(p);
+    sent(rows, held, a, again)
 }

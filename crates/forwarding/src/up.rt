@@ -14,6 +14,8 @@ use effects::effect::lost;
 use effects::effect::only;
 use effects::effect::writes;
 use effects::effect::writes_for;
+use items::packet::is_bare;
+use items::packet::no_header;
 use items::packet::under;
 use lookups::users::stands;
 use rows::row::admits;
@@ -28,33 +30,23 @@ ghost use Rattle.model.specs.Rules as spec;
 fn stripped(h: Header) -> Peers
     ensures { λ r. ⌜ r ≡ spec.stripped h ⌝ }
 {
-    match h {
-        Header::Bare => Peers { first: 0 },
-        Header::Tunnel {
-            from,
-            to: _,
-            spi: _,
-        } => Peers { first: from },
+    if is_bare(h) {
+        return Peers { first: 0 };
     }
+    Peers { first: h.from }
 }
 
 // Whether the packet is bare, or its header's association stands and this session has an in row of it.
 fn admitted(users: &[u16; 2048], rows: [Row; 32], held: u8, a: u8, h: Header) -> bool
     ensures { λ r. ⌜ r ≡ spec.admitted (row.stands (now (users .entry)) false) (take held rows) a h ⌝ }
 {
-    match h {
-        Header::Bare => true,
-        Header::Tunnel {
-            from,
-            to: _,
-            spi: _,
-        } => {
-            if stands(users, false, a, from) {
-                return admits(rows, held, a, from);
-            }
-            false
-        }
+    if is_bare(h) {
+        return true;
     }
+    if stands(users, false, a, h.from) {
+        return admits(rows, held, a, h.from);
+    }
+    false
 }
 
 // Whether the packet came through the tunnel of its matching in row, or through none where there is no row.
@@ -98,7 +90,8 @@ pub fn up(users: &[u16; 2048], rows: [Row; 32], held: u8, a: u8, p: Packet) -> E
         return lost(Loss::WrongTunnel);
     }
     if p.destination != a {
-        let inner = under(p, Header::Bare);
+        let none = no_header();
+        let inner = under(p, none);
         return writes(Item::Out(a, inner));
     }
     received(a, p.source, payload)

@@ -7,7 +7,6 @@ use calculus::effect::Outcome;
 use calculus::effect::Wait;
 use calculus::network::Network;
 use calculus::network::NextHop;
-use calculus::number::pred;
 use calculus::packet::Item;
 use calculus::packet::Packet;
 use calculus::packet::Payload;
@@ -15,8 +14,10 @@ use calculus::session::Session;
 use effects::effect::lost;
 use effects::effect::only;
 use effects::effect::writes;
+use items::packet::fewer;
 use items::packet::is_bare;
 use items::packet::is_data_or_done;
+use items::packet::no_hops_left;
 use items::packet::target;
 use lookups::network::is_gateway;
 use lookups::network::next_hop;
@@ -83,29 +84,29 @@ fn unprotected(gateway: bool, p: Packet) -> bool
     false
 }
 
-fn onward(next: NextHop, p: Packet, hops: u8) -> Effect
-    ensures { λ r. ⌜ r ≡ spec.onward next p hops ⌝ }
+fn onward(next: NextHop, p: Packet) -> Effect
+    ensures { λ r. ⌜ r ≡ spec.onward next p ⌝ }
 {
     match next {
         NextHop::Exact(node) => {
-            let left = pred(hops);
-            writes(Item::Wire(node, p, left))
+            let moved = fewer(p);
+            writes(Item::Wire(node, moved))
         }
         NextHop::Default(node) => {
-            let left = pred(hops);
-            only(Outcome::WroteByDefault(Item::Wire(node, p, left)))
+            let moved = fewer(p);
+            only(Outcome::WroteByDefault(Item::Wire(node, moved)))
         }
         NextHop::Missing => lost(Loss::NoRoute),
     }
 }
 
 // Onward by the route from `a` to the packet's target.
-fn routed(n: Network, a: u8, p: Packet, hops: u8) -> Effect
-    ensures { λ r. ⌜ r ≡ spec.onward (nextHop n a (packet.target p)) p hops ⌝ }
+fn routed(n: Network, a: u8, p: Packet) -> Effect
+    ensures { λ r. ⌜ r ≡ spec.onward (nextHop n a (packet.target p)) p ⌝ }
 {
     let to = target(p);
     let next = next_hop(n, a, to);
-    onward(next, p, hops)
+    onward(next, p)
 }
 
 // Whether the packet has come to where it goes.
@@ -117,8 +118,8 @@ fn arrived(a: u8, p: Packet) -> bool
 }
 
 // The first case that fits, where `gateway` tells whether `a` is one.
-fn first_fit(gateway: bool, n: Network, s: Session, a: u8, p: Packet, h: u8) -> Effect
-    ensures { λ r. ⌜ r ≡ spec.wireRule gateway (nextHop n a) s a p h ⌝ }
+fn first_fit(gateway: bool, n: Network, s: Session, a: u8, p: Packet) -> Effect
+    ensures { λ r. ⌜ r ≡ spec.wireRule gateway (nextHop n a) s a p ⌝ }
 {
     let payload = p.payload;
     if discovers(gateway, s.server, a, payload) {
@@ -134,16 +135,16 @@ fn first_fit(gateway: bool, n: Network, s: Session, a: u8, p: Packet, h: u8) -> 
     if unprotected(gateway, p) {
         return lost(Loss::Unprotected);
     }
-    if h == 0 {
+    if no_hops_left(p) {
         return lost(Loss::HopLimit);
     }
-    routed(n, a, p, h)
+    routed(n, a, p)
 }
 
-// wire(a, packet, h).
-pub fn wire(n: Network, s: Session, a: u8, p: Packet, h: u8) -> Effect
-    ensures { λ r. ⌜ r ≡ spec.wireRule (isGateway n a) (nextHop n a) s a p h ⌝ }
+// wire(a, packet, h): h is the packet's count in use.
+pub fn wire(n: Network, s: Session, a: u8, p: Packet) -> Effect
+    ensures { λ r. ⌜ r ≡ spec.wireRule (isGateway n a) (nextHop n a) s a p ⌝ }
 {
     let gateway = is_gateway(n, a);
-    first_fit(gateway, n, s, a, p, h)
+    first_fit(gateway, n, s, a, p)
 }

@@ -12,7 +12,7 @@ pub fn is_free(i: Item) -> bool
 {
     match i {
         Item::Free => true,
-        Item::Wire(_, _, _) => false,
+        Item::Wire(_, _) => false,
         Item::Out(_, _) => false,
         Item::Up(_, _) => false,
         Item::Est(_, _, _) => false,
@@ -30,7 +30,7 @@ pub fn wait_in(i: Item) -> Wait
 {
     match i {
         Item::Free => Wait::NoWait,
-        Item::Wire(_, _, _) => Wait::NoWait,
+        Item::Wire(_, _) => Wait::NoWait,
         Item::Out(_, _) => Wait::NoWait,
         Item::Up(_, _) => Wait::NoWait,
         Item::Est(_, _, _) => Wait::NoWait,
@@ -92,7 +92,7 @@ pub fn is_data_item(i: Item) -> bool
 {
     match i {
         Item::Free => false,
-        Item::Wire(_, p, _) => has_data(p),
+        Item::Wire(_, p) => has_data(p),
         Item::Out(_, p) => has_data(p),
         Item::Up(_, p) => has_data(p),
         Item::Est(_, _, _) => false,

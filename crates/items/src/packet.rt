@@ -1,19 +1,42 @@
-// Packets and their headers.
+// Packets, their headers and their hop counts.
+use calculus::number::Spi;
+use calculus::number::pred;
+use calculus::packet::HOP_LIMIT;
 use calculus::packet::Header;
 use calculus::packet::Packet;
 use calculus::packet::Payload;
 ghost use mathlib.Core.Path.{_≡_};
+ghost use lib.Dec.{eqb};
 ghost use Rattle.model.specs.Packet as spec;
 
-// A packet with no header.
+pub fn no_header() -> Header
+    ensures { λ r. ⌜ r ≡ spec.noHeader ⌝ }
+{
+    Header {
+        from: 0,
+        to: 0,
+        spi: Spi(0),
+        hops: 0,
+    }
+}
+
+pub fn is_bare(h: Header) -> bool
+    ensures { λ r. ⌜ r ≡ spec.isBare h ⌝ }
+{
+    h.to == 0
+}
+
+// A new packet, with no header.
 pub fn bare(source: u8, destination: u8, payload: Payload) -> Packet
     ensures { λ r. ⌜ r ≡ spec.bare source destination payload ⌝ }
 {
+    let header = no_header();
     Packet {
         source,
         destination,
         payload,
-        header: Header::Bare,
+        hops: HOP_LIMIT,
+        header,
     }
 }
 
@@ -26,6 +49,7 @@ pub fn under(p: Packet, header: Header) -> Packet
         source: p.source,
         destination: p.destination,
         payload,
+        hops: p.hops,
         header,
     }
 }
@@ -35,27 +59,55 @@ pub fn target(p: Packet) -> u8
     ensures { λ r. ⌜ r ≡ spec.target p ⌝ }
 {
     let header = p.header;
-    match header {
-        Header::Bare => p.destination,
-        Header::Tunnel {
-            from: _,
-            to,
-            spi: _,
-        } => to,
+    if is_bare(header) {
+        return p.destination;
     }
+    header.to
 }
 
-pub fn is_bare(h: Header) -> bool
-    ensures { λ r. ⌜ r ≡ spec.isBare h ⌝ }
+// The count in use: the header's while it is on, else the inner one.
+fn hops_left(p: Packet) -> u8
+    ensures { λ r. ⌜ r ≡ spec.hopsLeft p ⌝ }
 {
-    match h {
-        Header::Bare => true,
-        Header::Tunnel {
-            from: _,
-            to: _,
-            spi: _,
-        } => false,
+    let header = p.header;
+    if is_bare(header) {
+        return p.hops;
     }
+    header.hops
+}
+
+pub fn no_hops_left(p: Packet) -> bool
+    ensures { λ r. ⌜ r ≡ eqb (spec.hopsLeft p) 0 ⌝ }
+{
+    let left = hops_left(p);
+    left == 0
+}
+
+// The packet with one taken from the count in use.
+pub fn fewer(p: Packet) -> Packet
+    ensures { λ r. ⌜ r ≡ spec.fewer p ⌝ }
+{
+    let payload = p.payload;
+    let header = p.header;
+    if is_bare(header) {
+        let hops = pred(p.hops);
+        return Packet {
+            source: p.source,
+            destination: p.destination,
+            payload,
+            hops,
+            header,
+        };
+    }
+    let hops = pred(header.hops);
+    let spi = header.spi;
+    let outer = Header {
+        from: header.from,
+        to: header.to,
+        spi,
+        hops,
+    };
+    under(p, outer)
 }
 
 fn is_data(y: Payload) -> bool

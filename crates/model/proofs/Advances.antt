@@ -11,24 +11,24 @@ use Rattle.calculus.specs.declared.effect.Effect.{Effect}
 use Rattle.calculus.specs.declared.network.Network.{Network}
 use Rattle.calculus.specs.declared.network.NextHop.{NextHop}
 use Rattle.calculus.specs.declared.network.NextHop.the-variants.{Exact, Default, Missing}
+use Rattle.calculus.specs.declared.packet.Payload.{Payload}
 use Rattle.calculus.specs.declared.packet.Payload.the-variants.{Req, Rep, Disc, Done}
 use Rattle.calculus.specs.declared.packet.Header.{Header}
-use Rattle.calculus.specs.declared.packet.Header.the-variants.{Tunnel}
 use Rattle.calculus.specs.declared.packet.Packet.{Packet}
 use Rattle.calculus.specs.declared.packet.Item.{Item}
 use Rattle.calculus.specs.declared.packet.Item.the-variants.{Wire, Out, Est}
 use Rattle.calculus.specs.declared.state.Part.{Part}
 use Rattle.model.specs.Lists.{All}
 use Rattle.model.specs.Network.{isGateway, nextHop, hasAllNeeded}
-use Rattle.model.specs.Packet.{hopLimit, bare, under}
+use Rattle.model.specs.Packet.{hopLimit, bare, under, target, hopsLeft, fewer}
 use Rattle.model.specs.Row.{held, newest, admits, areNodes}
-use Rattle.model.specs.Rules.{lost, writes, isExhausted, begin, discovers, headerTo, unprotected, onward, wireRule, outRule, admitted, matched, received, upRule, estRule, authRule, grantRule, acknowledged, ackRule, rule}
+use Rattle.model.specs.Rules.{lost, writes, isExhausted, begin, discovers, unprotected, onward, wireRule, sent, outRule, admitted, matched, received, upRule, estRule, authRule, grantRule, acknowledged, ackRule, rule}
 use Rattle.model.specs.State.{begunAfter, addedRows}
 use Rattle.model.specs.Termination.{tripSteps, ceiling, isActive}
 use Rattle.model.proofs.Discovers.{server-discovers, not-exhausted}
 use Rattle.model.proofs.Named.{Written}
 use Rattle.model.proofs.Places.{node-bounds}
-use Rattle.model.proofs.Trips.{Trip, sent, onWire, Travels, gone, further, hops, comes, travels, trip-some}
+use Rattle.model.proofs.Trips.{bareWith, Trip, atSource, onWire, Travels, gone, further, hops, comes, travels, trip-some}
 use Rattle.model.proofs.Underway.{Leaves, Ends, Discovering, Begun, Returning, Underway, discovering, establishing, requesting, responderAuth, responderGrant, replying, initiatorAuth, initiatorGrant, acknowledging, doneOut, doneOnWire, doneUp, doneBare}
 use Rattle.model.proofs.Points.{nextNode, points, walk-found, walk-on, points-next, after-client, between-next, met-once, Chained, responderOut, responderIn, initiatorOut, initiatorIn, never-tunnelled, passed}
 
@@ -66,18 +66,18 @@ module _ (net : Network) (t : Part) (n : ℕ) where
     wrote h p = record { counted = h; written = λ o. p; added = tt }
 
     -- whatever the look-up says; with no next node there is no item to place
-    moved-on : (next : NextHop) (p : Packet) (h : ℕ) → n + 1 ≤ ceiling → Place (Wire (nextNode next) p (h - 1)) → After (onward next p h)
-    moved-on (Exact next) p h few w = record { counted = few; written = λ o. w; added = tt }
-    moved-on (Default next) p h few w = record { counted = few; written = λ o. w; added = tt }
-    moved-on Missing p h few w = loses few
+    moved-on : (next : NextHop) (p : Packet) → n + 1 ≤ ceiling → Place (Wire (nextNode next) (fewer p)) → After (onward next p)
+    moved-on (Exact next) p few w = record { counted = few; written = λ o. w; added = tt }
+    moved-on (Default next) p few w = record { counted = few; written = λ o. w; added = tt }
+    moved-on Missing p few w = loses few
 
     -- a packet on its way goes on, is lost or is received
-    on-trip : {j : ℕ} {f : Effect} (p : Packet) → n + 1 ≤ ceiling → Travels p j f → ((k : ℕ) (i : Item) → Trip p k i → k < j → Place i)
-        → After (received (p .destination) (p .source) (p .payload)) → After f
-    on-trip p h (gone x) g r = loses h
-    on-trip p h (further k i w m) g r = wrote h (g k i w m)
-    on-trip p h (hops next k z e) g r = moved-on next p k h (g (k - 1 + 2) _ (onWire (nextNode next) (k - 1)) (omega arith))
-    on-trip p h comes g r = r
+    on-trip : {j : ℕ} {f : Effect} {x z : ℕ} {y : Payload} → n + 1 ≤ ceiling → Travels x z y j f
+        → ((k : ℕ) (i : Item) → Trip x z y k i → k < j → Place i) → After (received z x y) → After f
+    on-trip h (gone l) g r = loses h
+    on-trip h (further k i w m) g r = wrote h (g k i w m)
+    on-trip h (hops next k z e) g r = moved-on next _ h (g (k - 1 + 2) _ (onWire (nextNode next) (k - 1)) (omega arith))
+    on-trip h comes g r = r
 
     -- the client discovers nothing
     not-client : (a p : ℕ) → discovers (isGateway net a) d a (Disc p) ≡ true → a ≡ c → ⊥
@@ -88,9 +88,9 @@ module _ (net : Network) (t : Part) (n : ℕ) where
 
     -- a Disc that nobody discovers at a, and that has hops left
     onward-disc : (a h : ℕ) → Discovering net c d b n a h → discovers (isGateway net a) d a (Disc (point b)) ≡ false → (h ≡ 0 → ⊥)
-        → After (onward (nextHop net a d) (bare c d (Disc (point b))) h)
+        → After (onward (nextHop net a d) (bareWith c d (Disc (point b)) h))
     onward-disc a h w g z =
-        moved-on (nextHop net a d) (bare c d (Disc (point b))) h (omega (arith, w .leaves, w .few))
+        moved-on (nextHop net a d) (bareWith c d (Disc (point b)) h) (omega (arith, w .leaves, w .few))
         (discovering (nextNode (nextHop net a d)) (h - 1)
         (record {
           between = w .between;
@@ -125,7 +125,7 @@ module _ (net : Network) (t : Part) (n : ℕ) where
     ack-next i w k =
         either Place (eqb (point b) d)
         (λ e.
-        doneOut (point b) b
+        doneOut hopLimit (point b) b (omega arith)
         (record { between = w .between; server = eqb-true (point b) d e; here = refl; least = omega (arith, w .number); most = omega arith })
         (omega (arith, w .few)))
         (λ e.
@@ -139,21 +139,22 @@ module _ (net : Network) (t : Part) (n : ℕ) where
         }))
 
     -- through the matching tunnel, or bare
-    done-out : (q x k : ℕ) → Returning net c d b x k → tripSteps * k + n ≤ ceiling → After (writes (Wire x (under (bare d c Done) (headerTo x (record { first = q }))) hopLimit))
-    done-out q x k w m =
-        either (λ (h : Header). After (writes (Wire x (under (bare d c Done) h) hopLimit))) (eqb q 0)
-        (λ e. wrote (omega (arith, w .least)) (doneBare (onWire x hopLimit) (omega arith) (omega (arith, w .least))))
-        (λ e. wrote (omega (arith, w .least)) (doneOnWire x k q _ x hopLimit w (omega (arith, w .least))))
+    done-sent : (m x k : ℕ) → m ≤ hopLimit → Returning net c d b x k → tripSteps * k + n ≤ ceiling → After (sent (held t) x (bareWith d c Done m))
+    done-sent m x k o w l =
+        let p = bareWith d c Done m in
+        either (λ (h : Header). After (writes (Wire x (under p h)))) (eqb (newest (held t) true x p .first) 0)
+        (λ e. wrote (omega (arith, w .least)) (doneBare (onWire x m) (omega arith) (omega (arith, w .least))))
+        (λ e. wrote (omega (arith, w .least)) (doneOnWire m k _ x o e w (omega (arith, w .least))))
 
     -- out of the tunnel from x, and on from y, which is the point before
-    done-through : (x k y : ℕ) → Returning net c d b x k → tripSteps * (k - 1) + 1 + n ≤ ceiling → areNodes y x ≡ true
-        → newest (held t) false y (bare d c Done) .first ≡ x → (c ≡ y → ⊥) → After (writes (Out y (bare d c Done)))
-    done-through x k y w m g e f =
+    done-through : (m x k y : ℕ) → m ≤ hopLimit → Returning net c d b x k → tripSteps * (k - 1) + 1 + n ≤ ceiling → areNodes y x ≡ true
+        → newest (held t) false y (bare d c Done) .first ≡ x → (c ≡ y → ⊥) → After (writes (Out y (bareWith d c Done m)))
+    done-through m x k y o w l g e f =
         let v = passed net c d b (ends .apart) y (held t) rows (λ z. absurd (omega (arith, node-bounds y x g, e, z))) in
         let same : k ≡ v .number = met-once net c d b (w .between) (w .server) k (v .number) (sym (w .here) ∙ sym e ∙ v .far) (w .most) (v .few) in
         let on : 1 ≤ v .place = after-client net c d (v .place) (λ z. f (sym (v .near ∙ z))) in
         wrote (omega arith)
-        (doneOut y (v .place)
+        (doneOut m y (v .place) o
         (record { between = w .between; server = w .server; here = v .near; least = on; most = omega (arith, v .follows, v .few) })
         (omega (arith, v .follows, same)))
 
@@ -163,7 +164,7 @@ module _ (net : Network) (t : Part) (n : ℕ) where
     pub advances : (i : Item) → Underway net c d b n i → After (rule net areNodes t i)
     unfolding rule wireRule outRule upRule estRule authRule grantRule ackRule
     advances x (discovering a h w) =
-        let p = bare c d (Disc (point b)) in
+        let p = bareWith c d (Disc (point b)) h in
         let few : n + 1 ≤ ceiling = omega (arith, w .leaves, w .few) in
         either After (discovers (isGateway net a) d a (Disc (point b)))
         (λ g. either After (isExhausted (t .session)) (λ o. loses few) (λ o. begins a h w g (not-exhausted (t .session) o)))
@@ -174,10 +175,10 @@ module _ (net : Network) (t : Part) (n : ℕ) where
         (λ o. either After (unprotected (isGateway net a) p) (λ o. loses few)
         (λ o. either After (eqb h 0) (λ z. loses few) (λ z. onward-disc a h w g (eqb-false h 0 z)))))
     advances x (establishing i w k) =
-        record { counted = omega arith; written = (λ o. requesting i w sent (omega arith), λ o. never o); added = tt }
+        record { counted = omega arith; written = (λ o. requesting i w atSource (omega arith), λ o. never o); added = tt }
     advances x (requesting i w v k) =
         let p = bare (point b) (point i) (Req b) in
-        on-trip p (omega arith)
+        on-trip (omega arith)
         (travels net t (point b) (point i) (Req b) (λ g u x. refl)
         (λ m. never-tunnelled net c d b (point b) p i (w .number) (w .between) (eq-eqb b b refl) (λ z. (initiator i w, z)) (held t) rows) v)
         (λ j x u m. requesting i w u (omega arith))
@@ -189,12 +190,12 @@ module _ (net : Network) (t : Part) (n : ℕ) where
     advances x (responderGrant i w k) =
         record {
           counted = omega arith;
-          written = λ o. replying i w sent (omega arith);
+          written = λ o. replying i w atSource (omega arith);
           added = (responderOut i b (w .number) (omega arith), (responderIn i b (w .number) (omega arith), tt));
         }
     advances x (replying i w v k) =
         let p = bare (point i) (point b) (Rep b) in
-        on-trip p (omega arith)
+        on-trip (omega arith)
         (travels net t (point i) (point b) (Rep b) (λ g u x. refl)
         (λ m. never-tunnelled net c d b (point i) p i (w .number) (w .between) (eq-eqb b b refl) (λ z. (z, initiator i w)) (held t) rows) v)
         (λ j x u m. replying i w u (omega arith))
@@ -210,25 +211,33 @@ module _ (net : Network) (t : Part) (n : ℕ) where
           added = (initiatorOut i b (w .number) (omega arith), (initiatorIn i b (w .number) (omega arith), tt));
         }
     advances x (acknowledging i w k) = record { counted = omega arith; written = λ o. ack-next i w k; added = tt }
-    advances i (doneOut x k w m) = done-out (newest (held t) true x (bare d c Done) .first) x k w m
-    advances i (doneOnWire x k q s y h w m) =
-        let p = under (bare d c Done) (Tunnel x q s) in
+    advances i (doneOut m x k o w l) =
+        either After (eqb x d) (λ e. done-sent m x k o w l)
+        (λ e. either After (eqb m 0) (λ z. loses (omega (arith, w .least))) (λ z. done-sent (m - 1) x k (omega arith) w l))
+    advances i (doneOnWire m k h y o u w l) =
+        let p = under (bareWith d c Done m) h in
         let few : n + 1 ≤ ceiling = omega arith in
-        either After (eqb y q) (λ e. wrote few (doneUp x k q s y w (omega arith)))
+        let inner : fewer p .hops ≡ m = rw u in
+        let outer : fewer p .header .hops ≡ h .hops - 1 = rw u in
+        either After (eqb y (target p)) (λ e. wrote few (doneUp m k h y o u w (omega arith)))
         (λ e. either After (unprotected (isGateway net y) p) (λ o. loses few)
-        (λ o. either After (eqb h 0) (λ z. loses few) (λ z. moved-on (nextHop net y q) p h few (doneOnWire x k q s (nextNode (nextHop net y q)) (h - 1) w (omega (arith, eqb-false h 0 z))))))
-    advances i (doneUp x k q s y w m) =
+        (λ e. either After (eqb (hopsLeft p) 0) (λ z. loses few)
+        (λ z. moved-on (nextHop net y (target p)) p few
+        (doneOnWire (fewer p .hops) k (fewer p .header) _ (omega (arith, inner)) u w (omega (arith, outer, eqb-false (h .hops) 0 (rw u at z)))))))
+    advances i (doneUp m k h y o u w l) =
         let few : n + 1 ≤ ceiling = omega arith in
-        let p = under (bare d c Done) (Tunnel x q s) in
+        let p = under (bareWith d c Done m) h in
+        let x = h .from in
         let admit = admitted areNodes (held t) y (p .header) in
         let match = matched (held t) y p in
         either After (not admit) (λ e. loses few)
         (λ e. either After (not match) (λ g. loses few)
         (λ g. either After (not (eqb c y))
-        (λ f. done-through x k y w m (both (areNodes y x) (admits (held t) y x) (not-false admit e) .0) (eqb-true _ x (not-false match g)) (eqb-false c y (not-true (eqb c y) f)))
+        (λ f. done-through m x k y o w l (both (areNodes y x) (admits (held t) y x) (rw u at (not-false admit e)) .0) (eqb-true _ x (rw u at (not-false match g)))
+        (eqb-false c y (not-true (eqb c y) f)))
         (λ f. record { counted = few; written = tt; added = tt })))
     advances i (doneBare v l m) =
-        on-trip (bare d c Done) (omega (arith, trip-some v))
+        on-trip (omega (arith, trip-some v))
         (travels net t d c Done (λ g u x. refl) (λ o. absurd (omega arith)) v)
         (λ j x u o. doneBare u (omega arith) (omega arith))
         (record { counted = omega (arith, trip-some v); written = tt; added = tt })

@@ -16,7 +16,6 @@ use Rattle.calculus.specs.declared.network.NextHop.{NextHop}
 use Rattle.calculus.specs.declared.network.NextHop.the-variants.{Exact, Default, Missing}
 use Rattle.calculus.specs.declared.packet.Payload.{Payload}
 use Rattle.calculus.specs.declared.packet.Payload.the-variants.{Req, Rep, Disc, Done, Data}
-use Rattle.calculus.specs.declared.packet.Header.{Header}
 use Rattle.calculus.specs.declared.packet.Packet.{Packet}
 use Rattle.calculus.specs.declared.packet.Side.{Side}
 use Rattle.calculus.specs.declared.packet.Side.the-variants.{Responder, Initiator}
@@ -26,7 +25,7 @@ use Rattle.calculus.specs.declared.session.Row.{Row}
 use Rattle.calculus.specs.declared.session.Session.{Session}
 use Rattle.calculus.specs.declared.state.Part.{Part}
 use Rattle.model.specs.Network.{isGateway, nextHop, hasAllNeeded}
-use Rattle.model.specs.Packet.{bare, under, target, isData}
+use Rattle.model.specs.Packet.{target, hopsLeft, isData}
 use Rattle.model.specs.Row.{held}
 use Rattle.model.specs.Rules.{writesFor, discovers, isExhausted, unprotected, onward, wireRule, outRule, admitted, matched, received, upRule, estRule, authRule, grantRule, ackRule, rule}
 use Rattle.model.specs.State.{writtenCount, stageAfter, begunAfter, addedRows}
@@ -53,16 +52,16 @@ pub record Law (s : Session) (i : Item) (f : Effect) : Type 0 where
   pub adds : length (addedRows (f .added)) ≤ 2 * active i
   pub begins : (s .begun ≤ begunAfter (s .begun) (f .begins)) × (begunAfter (s .begun) (f .begins) ≤ s .begun + active i)
 
-onward-law : (next : NextHop) (s : Session) (a : ℕ) (p : Packet) (h : ℕ) → Law s (Wire a p h) (onward next p h)
+onward-law : (next : NextHop) (s : Session) (a : ℕ) (p : Packet) → Law s (Wire a p) (onward next p)
 unfolding uses space carries active due
-onward-law (Exact next) s a p h = omega arith
-onward-law (Default next) s a p h = omega arith
-onward-law Missing s a p h = omega arith
+onward-law (Exact next) s a p = omega arith
+onward-law (Default next) s a p = omega arith
+onward-law Missing s a p = omega arith
 
-wire-law : (gateway : Bool) (look : ℕ → NextHop) (s : Session) (a : ℕ) (p : Packet) (h : ℕ) → Law s (Wire a p h) (wireRule gateway look s a p h)
+wire-law : (gateway : Bool) (look : ℕ → NextHop) (s : Session) (a : ℕ) (p : Packet) → Law s (Wire a p) (wireRule gateway look s a p)
 unfolding uses space carries active due wireRule
-wire-law gateway look s a p h =
-    let P = Law s (Wire a p h) in
+wire-law gateway look s a p =
+    let P = Law s (Wire a p) in
     either P (discovers gateway (s .server) a (p .payload))
     (λ k. either P (isExhausted s) (λ e. omega arith)
     (λ e.
@@ -70,16 +69,26 @@ wire-law gateway look s a p h =
     omega (arith, ap packetSpace x, ap (λ (y : Payload). one (not (isData y) && true)) x, not-exhausted s e)))
     (λ e. either P (eqb a (target p)) (λ e. omega arith)
     (λ e. either P (unprotected gateway p) (λ e. omega arith)
-    (λ e. either P (eqb h 0) (λ e. omega arith) (λ e. onward-law (look (target p)) s a p h))))
+    (λ e. either P (eqb (hopsLeft p) 0) (λ e. omega arith) (λ e. onward-law (look (target p)) s a p))))
+
+out-law : (s : Session) (rows : List Row) (a : ℕ) (p : Packet) → Law s (Out a p) (outRule rows a p)
+unfolding uses space carries active due outRule
+out-law s rows a p =
+    let P = Law s (Out a p) in
+    either P (eqb a (p .source)) (λ e. omega arith) (λ e. either P (eqb (hopsLeft p) 0) (λ e. omega arith) (λ e. omega arith))
+
+-- the packet with this destination and payload
+abbrev carrying : Packet → ℕ → Payload → Packet
+carrying p a y = record { source = p .source; destination = a; payload = y; hops = p .hops; header = p .header }
 
 -- a packet received at its destination
-received-law : (s : Session) (a b : ℕ) (y : Payload) (x : Header) → Law s (Up a (under (bare b a y) x)) (received a b y)
+received-law : (s : Session) (a : ℕ) (y : Payload) (p : Packet) → Law s (Up a (carrying p a y)) (received a (p .source) y)
 unfolding uses space carries active due
-received-law s a b (Req e) x = omega arith
-received-law s a b (Rep e) x = omega (arith, wanted (Up a (under (bare b a (Rep e)) x)))
-received-law s a b (Disc p) x = omega arith
-received-law s a b Done x = omega arith
-received-law s a b (Data tag) x = omega arith
+received-law s a (Req e) p = omega arith
+received-law s a (Rep e) p = omega (arith, wanted (Up a (carrying p a (Rep e))))
+received-law s a (Disc q) p = omega arith
+received-law s a Done p = omega arith
+received-law s a (Data tag) p = omega arith
 
 up-law : (standing : ℕ → ℕ → Bool) (s : Session) (rows : List Row) (a : ℕ) (p : Packet) → Law s (Up a p) (upRule standing rows a p)
 unfolding uses space carries active due upRule
@@ -88,8 +97,8 @@ up-law standing s rows a p =
     either P (not (admitted standing rows a (p .header))) (λ e. omega arith)
     (λ e. either P (not (matched rows a p)) (λ e. omega arith)
     (λ e. either P (not (eqb (p .destination) a)) (λ e. omega arith)
-    (λ e. subst (λ (x : ℕ). Law s (Up a (under (bare (p .source) x (p .payload)) (p .header))) (received a (p .source) (p .payload)))
-    (sym (eqb-true (p .destination) a (not-false (eqb (p .destination) a) e))) (received-law s a (p .source) (p .payload) (p .header)))))
+    (λ e. subst (λ (x : ℕ). Law s (Up a (carrying p x (p .payload))) (received a (p .source) (p .payload)))
+    (sym (eqb-true (p .destination) a (not-false (eqb (p .destination) a) e))) (received-law s a (p .payload) p))))
 
 auth-law : (enough : Bool) (s : Session) (a q e : ℕ) (side : Side) → Law s (Auth a q e side) (authRule enough a q e side)
 unfolding uses space carries active due authRule
@@ -107,10 +116,10 @@ ack-law s a e =
     either (λ (i : Item). Law s (Ack a e) (writesFor (ackRule s a .wait) i)) (eqb a (s .server)) (λ k. omega (arith, h)) (λ k. omega (arith, h))
 
 pub rule-law : (n : Network) (standing : ℕ → ℕ → Bool) (t : Part) (i : Item) → Law (t .session) i (rule n standing t i)
-unfolding uses space carries active due rule outRule estRule
+unfolding uses space carries active due rule estRule
 rule-law n standing t Free = omega arith
-rule-law n standing t (Wire a p h) = wire-law (isGateway n a) (nextHop n a) (t .session) a p h
-rule-law n standing t (Out a p) = omega arith
+rule-law n standing t (Wire a p) = wire-law (isGateway n a) (nextHop n a) (t .session) a p
+rule-law n standing t (Out a p) = out-law (t .session) (held t) a p
 rule-law n standing t (Up a p) = up-law standing (t .session) (held t) a p
 rule-law n standing t (Est a b e) = omega arith
 rule-law n standing t (Auth a q e side) = auth-law (hasAllNeeded n a q) (t .session) a q e side

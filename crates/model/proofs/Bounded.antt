@@ -69,7 +69,7 @@ module _ (network : Network) (t : Part) (h : Sane t) (n : ℕ) (k : Tracked netw
   tracked-opening c d u o =
       let i = h .idle u in
       let P = Tracks network c d (t .session .begun) 0 in
-      let first : Underway network c d 0 0 (Wire c (bare c d (Disc c)) hopLimit) =
+      let first : Underway network c d 0 0 (Wire c (bare c d (Disc c))) =
       discovering c hopLimit
       (record {
         between = record { server = λ i m. absurd (omega arith); client = λ i l m. absurd (omega arith) };
@@ -80,7 +80,7 @@ module _ (network : Network) (t : Part) (h : Sane t) (n : ℕ) (k : Tracked netw
       }) in
       record {
         few = omega arith;
-        items = all-put P (t .items) (nextNumber t) (Wire c (bare c d (Disc c)) hopLimit) (all-unused P (λ e. never e) t h u) (λ e. (o, rw (i .1) first));
+        items = all-put P (t .items) (nextNumber t) (Wire c (bare c d (Disc c))) (all-unused P (λ e. never e) t h u) (λ e. (o, rw (i .1) first));
         rows = rw (i .0) tt;
       }
 

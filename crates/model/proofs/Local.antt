@@ -1,6 +1,6 @@
 -- What a session's call answers and leaves of its part is a function of the network, its part and the call. Assumes nothing.
 use mathlib.Core.Path.{_≡_, refl, sym, ap, _∙_}
-use mathlib.Core.Bool.{Bool, true, false, cond, _&&_}
+use mathlib.Core.Bool.{Bool, true, false, cond, _&&_, _||_}
 use mathlib.Core.List.{[]}
 use mathlib.Core.Option.{Option, some}
 use Prim.Native.Nat.{ℕ}
@@ -13,7 +13,6 @@ use Rattle.calculus.specs.declared.answer.Refusal.{Refusal}
 use Rattle.calculus.specs.declared.answer.Refusal.the-variants.{Range, Short}
 use Rattle.calculus.specs.declared.network.Network.{Network}
 use Rattle.calculus.specs.declared.packet.Header.{Header}
-use Rattle.calculus.specs.declared.packet.Header.the-variants.{Bare, Tunnel}
 use Rattle.calculus.specs.declared.packet.Item.{Item}
 use Rattle.calculus.specs.declared.packet.Item.the-variants.{Free, Wire, Out, Up, Est, Auth, Grant, Ack, Dwait, Ewait}
 use Rattle.calculus.specs.declared.request.Request as request
@@ -26,6 +25,7 @@ use Rattle.forms.specs.declared.read.Reading.{Reading}
 use Rattle.forms.specs.Text.{Form}
 use Rattle.forms.specs.Read.{read}
 use Rattle.forms.specs.Request.{inRange, asked}
+use Rattle.model.specs.Packet.{isBare}
 use Rattle.model.specs.Row.{held, admits, areNodes, usersOf, stands}
 use Rattle.model.specs.Rules.{admitted, upRule, rule}
 use Rattle.model.specs.State.{load}
@@ -50,13 +50,12 @@ and-same false false b h = refl
 -- where an in row of this part tells that its association stands, no rule reads what stands
 module _ (n : Network) (standing : ℕ → ℕ → Bool) (t : Part) (h : (a q : ℕ) → admits (held t) a q ≡ true → standing a q ≡ areNodes a q) where
   admitted-same : (a : ℕ) (x : Header) → admitted standing (held t) a x ≡ admitted areNodes (held t) a x
-  admitted-same a Bare = refl
-  admitted-same a (Tunnel q to i) = and-same (standing a q) (areNodes a q) (admits (held t) a q) (h a q)
+  admitted-same a x = ap (λ (y : Bool). isBare x || y) (and-same (standing a (x .from)) (areNodes a (x .from)) (admits (held t) a (x .from)) (h a (x .from)))
 
   rule-same : (i : Item) → rule n standing t i ≡ rule n areNodes t i
   unfolding rule upRule
   rule-same Free = refl
-  rule-same (Wire a p k) = refl
+  rule-same (Wire a p) = refl
   rule-same (Out a p) = refl
   rule-same (Up a p) = rw (admitted-same a (p .header))
   rule-same (Est a b e) = refl

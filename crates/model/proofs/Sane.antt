@@ -21,7 +21,7 @@ use Rattle.calculus.specs.declared.request.Sender.the-variants.{Client, Server}
 use Rattle.calculus.specs.declared.session.Stage.{Stage}
 use Rattle.calculus.specs.declared.state.Part.{Part}
 use Rattle.model.specs.Network.{given}
-use Rattle.model.specs.Packet.{hopLimit, bare}
+use Rattle.model.specs.Packet.{bare}
 use Rattle.model.specs.Item.{isFree, isWait, isThatWait, vacant, isDataItem, howManyItems}
 use Rattle.model.specs.Row.{held}
 use Rattle.model.specs.Rules.{rule}
@@ -39,7 +39,7 @@ use Rattle.model.proofs.Balance.{rule-law}
 use Rattle.model.proofs.Pending.{Distinct, distinct-step, distinct-item}
 use Rattle.model.proofs.Roomy.{Roomy, emptied, roomy-empty, roomy-step, roomy-item}
 use Rattle.model.proofs.Moves.{held-applied}
-use Rattle.model.proofs.Named.{Named, RowNamed, Written, rule-named}
+use Rattle.model.proofs.Named.{Named, RowNamed, Written, bare-named, rule-named}
 
 -- ---- every item
 
@@ -184,10 +184,10 @@ module _ (t : Part) (h : Sane t) where
   unfolding opening uses space carries active due
   sane-opening c d u l hc hd ne =
       let z : spare (t .session .stage) ≡ 3 = rw u in
-      let i = Wire c (bare c d (Disc c)) hopLimit in
+      let i = Wire c (bare c d (Disc c)) in
       sane-item Stage.SettingUp c d i refl l hc hd
       (all-unused (Named d) tt t h u)
-      (hc, (hc, hd), λ e. (hc, ne, refl, refl), omega arith)
+      (hc, bare-named c d (Disc c) hc hd, λ e. (hc, ne, refl, refl))
       (roomy-item t (h .roomy) Stage.SettingUp c d i (λ v. refl) refl (omega arith) (omega arith)
       (omega (arith, weigh-le active space active-space (t .items))))
 
@@ -211,7 +211,7 @@ module _ (t : Part) (h : Sane t) where
         let i = Out a (bare a b (Data tag)) in
         let z : spare g ≡ 0 = rw u in
         let k = leb-false 12 (howManyItems isDataItem (t .items)) room in
-        sane-item g c d i u l (h .ends u .0) (h .ends u .1) (h .items) (ha, (ha, hb), refl)
+        sane-item g c d i u l (h .ends u .0) (h .ends u .1) (h .items) (ha, bare-named a b (Data tag) ha hb, refl, refl)
         (roomy-item t (h .roomy) g c d i (λ v. refl) refl (omega arith) (omega (arith, counted isDataItem (t .items))) (omega arith))
 
     sane-sending : (w : Sender) → Sane (sending t w tag)

@@ -20,7 +20,7 @@ use Rattle.calculus.specs.declared.state.State.{State}
 use Rattle.model.specs.Row.{held, areNodes, usersOf, stands}
 use Rattle.model.specs.Rules.{rule}
 use Rattle.model.specs.Item.{isFree, isWait, isDataItem, howManyItems}
-use Rattle.model.specs.SetUp.{itemAt, isSetUpItem, isGrant, isDiscOffWire, waitOf, hopsOf, itemsOf, waitItems, DropsNothing, Holds, SetUps}
+use Rattle.model.specs.SetUp.{itemAt, isSetUpItem, isGrant, isDiscOffWire, waitOf, HoldsPacket, itemsOf, waitItems, DropsNothing, Holds, SetUps}
 use Rattle.model.specs.State.{fresh, load, putItem, applied}
 use Rattle.model.specs.Calls.{after}
 use Rattle.model.specs.Lists.{tally, All}
@@ -40,7 +40,7 @@ use Rattle.model.proofs.Reached.{Sound, reached}
 
 disc-on-wire : (v : ℕ) (i : Item) → Named v i → isDiscOffWire i ≡ false
 disc-on-wire v Free h = refl
-disc-on-wire v (Wire a p x) h = refl
+disc-on-wire v (Wire a p) h = refl
 disc-on-wire v (Out a p) h = h .2
 disc-on-wire v (Up a p) h = h .2
 disc-on-wire v (Est a b e) h = refl
@@ -106,17 +106,17 @@ module _ (t : Part) (h : Roomy t) where
 
 -- ---- what is promised
 
-hops-few : (v : ℕ) (i : Item) → Named v i → hopsOf i ≤ 32
-hops-few v Free h = omega arith
-hops-few v (Wire a p x) h = h .3
-hops-few v (Out a p) h = omega arith
-hops-few v (Up a p) h = omega arith
-hops-few v (Est a b e) h = omega arith
-hops-few v (Auth a q e side) h = omega arith
-hops-few v (Grant a q e side) h = omega arith
-hops-few v (Ack a e) h = omega arith
-hops-few v (Dwait a) h = omega arith
-hops-few v (Ewait a e) h = omega arith
+named-packet : (v : ℕ) (i : Item) → Named v i → HoldsPacket i
+named-packet v Free h = tt
+named-packet v (Wire a p) h = h .1 .2
+named-packet v (Out a p) h = (h .1 .2, h .3)
+named-packet v (Up a p) h = h .1 .2
+named-packet v (Est a b e) h = tt
+named-packet v (Auth a q e side) h = tt
+named-packet v (Grant a q e side) h = tt
+named-packet v (Ack a e) h = tt
+named-packet v (Dwait a) h = tt
+named-packet v (Ewait a e) h = tt
 
 holds : (s : State) → Sound s → (u : ℕ) → Numbered u → Holds s (load s u)
 unfolding uses carries
@@ -141,7 +141,7 @@ holds s sound u hu =
       );
       rowNodes = h .rows;
       begun = k .begun;
-      hops = all-map (At (Named (t .session .server))) (At (λ i. hopsOf i ≤ 32)) (λ x. hops-few (t .session .server) (x .item)) l (h .items);
+      packets = all-map (At (Named (t .session .server))) (At HoldsPacket) (λ x. named-packet (t .session .server) (x .item)) l (h .items);
       waits = λ at.
           let i = itemAt l at in
           pends i l (λ v. omega (arith, weigh-at (uses v) refl l at, k .waits v)) (waitOf i) (wanted i);

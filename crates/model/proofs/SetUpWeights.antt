@@ -29,7 +29,7 @@ use Rattle.model.proofs.Weights.{count, weigh, counted, weigh-le, weigh
 -- an item's weight, by the weight of its packet, of an est's node, of the side of an auth and a grant, of an ack's node, of a wait
 abbrev weight : (Packet → ℕ) → (ℕ → ℕ) → (Side → ℕ → ℕ → ℕ → ℕ) → (ℕ → ℕ) → ℕ → Item → ℕ
 weight packet est side ack wait Free = 0
-weight packet est side ack wait (Wire a p h) = packet p
+weight packet est side ack wait (Wire a p) = packet p
 weight packet est side ack wait (Out a p) = packet p
 weight packet est side ack wait (Up a p) = packet p
 weight packet est side ack wait (Est a b e) = est a
@@ -124,7 +124,7 @@ packet-wanted a from (Data tag) i h = tt
 pub wanted : (i : Item) → Wanted i (waitOf i)
 unfolding uses waits
 wanted Free = tt
-wanted (Wire a p h) = packet-wanted (p .destination) (p .source) (p .payload) (Wire a p h) (λ v. refl)
+wanted (Wire a p) = packet-wanted (p .destination) (p .source) (p .payload) (Wire a p) (λ v. refl)
 wanted (Out a p) = packet-wanted (p .destination) (p .source) (p .payload) (Out a p) (λ v. refl)
 wanted (Up a p) = packet-wanted (p .destination) (p .source) (p .payload) (Up a p) (λ v. refl)
 wanted (Est a b e) = tt
@@ -157,7 +157,7 @@ side-space Initiator = omega arith
 pub set-up-space : (i : Item) → count isSetUpItem i ≤ space i
 unfolding space
 set-up-space Free = omega arith
-set-up-space (Wire a p h) = packet-space (p .payload)
+set-up-space (Wire a p) = packet-space (p .payload)
 set-up-space (Out a p) = packet-space (p .payload)
 set-up-space (Up a p) = packet-space (p .payload)
 set-up-space (Est a b e) = omega arith
@@ -199,7 +199,7 @@ side-due Initiator = omega arith
 pub grant-due : (i : Item) → count isGrant i + count isGrant i ≤ due i
 unfolding due
 grant-due Free = omega arith
-grant-due (Wire a p h) = omega arith
+grant-due (Wire a p) = omega arith
 grant-due (Out a p) = omega arith
 grant-due (Up a p) = omega arith
 grant-due (Est a b e) = omega arith

@@ -16,43 +16,46 @@ use Rattle.calculus.specs.declared.packet.Item.{Item}
 use Rattle.calculus.specs.declared.packet.Item.the-variants.{Wire, Out, Up}
 use Rattle.calculus.specs.declared.state.Part.{Part}
 use Rattle.model.specs.Network.{isGateway, nextHop}
-use Rattle.model.specs.Packet.{hopLimit, bare}
+use Rattle.model.specs.Packet.{hopLimit, noHeader, bare}
 use Rattle.model.specs.Row.{noPeers, held, newest, areNodes}
 use Rattle.model.specs.Rules.{lost, writes, discovers, unprotected, onward, wireRule, outRule, matched, received, upRule, rule}
 use Rattle.model.specs.Termination.{tripSteps}
 
--- where it can stand, and how many steps can follow until it is received
-pub data Trip (p : Packet) : ℕ → Item → Type 0 where
-  sent : Trip p tripSteps (Out (p .source) p)
-  onWire : (a h : ℕ) → Trip p (h + 2) (Wire a p h)
-  arrived : Trip p 1 (Up (p .destination) p)
+-- a bare packet with h hops left
+abbrev pub bareWith : ℕ → ℕ → Payload → ℕ → Packet
+bareWith a b y h = record { source = a; destination = b; payload = y; hops = h; header = noHeader }
 
-pub trip-some : {p : Packet} {j : ℕ} {i : Item} → Trip p j i → 1 ≤ j
-trip-some sent = omega arith
+-- where a packet from x to z can stand, and how many steps can follow until it is received
+pub data Trip (x z : ℕ) (y : Payload) : ℕ → Item → Type 0 where
+  atSource : Trip x z y tripSteps (Out x (bare x z y))
+  onWire : (a h : ℕ) → Trip x z y (h + 2) (Wire a (bareWith x z y h))
+  arrived : (h : ℕ) → Trip x z y 1 (Up z (bareWith x z y h))
+
+pub trip-some : {x z : ℕ} {y : Payload} {j : ℕ} {i : Item} → Trip x z y j i → 1 ≤ j
+trip-some atSource = omega arith
 trip-some (onWire a h) = omega arith
-trip-some arrived = omega arith
+trip-some (arrived h) = omega arith
 
 -- what a step of it does
-pub data Travels (p : Packet) (j : ℕ) : Effect → Type 0 where
-  gone : (x : Loss) → Travels p j (lost x)
-  further : (k : ℕ) (i : Item) → Trip p k i → k < j → Travels p j (writes i)
-  hops : (next : NextHop) (h : ℕ) → (h ≡ 0 → ⊥) → h + 2 ≡ j → Travels p j (onward next p h)
-  comes : Travels p j (received (p .destination) (p .source) (p .payload))
+pub data Travels (x z : ℕ) (y : Payload) (j : ℕ) : Effect → Type 0 where
+  gone : (l : Loss) → Travels x z y j (lost l)
+  further : (k : ℕ) (i : Item) → Trip x z y k i → k < j → Travels x z y j (writes i)
+  hops : (next : NextHop) (h : ℕ) → (h ≡ 0 → ⊥) → h + 2 ≡ j → Travels x z y j (onward next (bareWith x z y h))
+  comes : Travels x z y j (received z x y)
 
 module _ (n : Network) (t : Part) (x z : ℕ) (y : Payload)
     (quiet : (g : Bool) (v a : ℕ) → discovers g v a y ≡ false) where
-  abbrev packet : Packet
-  packet = bare x z y
-
   -- where it is still to be sent, it is sent bare
-  pub travels : {j : ℕ} {i : Item} → (tripSteps ≤ j → newest (held t) true x packet ≡ noPeers) → Trip packet j i → Travels packet j (rule n areNodes t i)
+  pub travels : {j : ℕ} {i : Item} → (tripSteps ≤ j → newest (held t) true x (bare x z y) ≡ noPeers) → Trip x z y j i
+      → Travels x z y j (rule n areNodes t i)
   unfolding rule outRule wireRule upRule
-  travels none sent = rw (none (omega arith)) (further (hopLimit + 2) _ (onWire x hopLimit) (omega arith))
+  travels none atSource = rw (eq-eqb x x refl, none (omega arith)) (further (hopLimit + 2) _ (onWire x hopLimit) (omega arith))
   travels none (onWire a h) =
-      let P = Travels packet (h + 2) in
+      let p = bareWith x z y h in
+      let P = Travels x z y (h + 2) in
       either P (discovers (isGateway n a) (t .session .server) a y) (λ e. never (sym (quiet _ _ _) ∙ e))
-      (λ e. either P (eqb a z) (λ k. subst (λ (b : ℕ). P (writes (Up b packet))) (sym (eqb-true a z k)) (further 1 _ arrived (omega arith)))
-      (λ e. either P (unprotected (isGateway n a) packet) (λ e. gone _)
+      (λ e. either P (eqb a z) (λ k. subst (λ (b : ℕ). P (writes (Up b p))) (sym (eqb-true a z k)) (further 1 _ (arrived h) (omega arith)))
+      (λ e. either P (unprotected (isGateway n a) p) (λ e. gone _)
       (λ e. either P (eqb h 0) (λ e. gone _) (λ e. hops (nextHop n a z) h (eqb-false h 0 e) refl))))
-  travels none arrived =
-      either (Travels packet 1) (not (matched (held t) z packet)) (λ e. gone _) (λ e. rw (eq-eqb z z refl) comes)
+  travels none (arrived h) =
+      either (Travels x z y 1) (not (matched (held t) z (bareWith x z y h))) (λ e. gone _) (λ e. rw (eq-eqb z z refl) comes)

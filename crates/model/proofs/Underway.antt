@@ -4,17 +4,16 @@ use mathlib.Core.Path.{_≡_}
 use mathlib.Core.Bool.{false}
 use Prim.Native.Nat.{ℕ, _+_, _-_, _*_, _≤_, _<_}
 use Rattle.calculus.specs.declared.network.Network.{Network}
-use Rattle.calculus.specs.declared.number.Spi.{Spi}
 use Rattle.calculus.specs.declared.packet.Payload.the-variants.{Req, Rep, Disc, Done}
-use Rattle.calculus.specs.declared.packet.Header.the-variants.{Tunnel}
+use Rattle.calculus.specs.declared.packet.Header.{Header}
 use Rattle.calculus.specs.declared.packet.Side.the-variants.{Responder, Initiator}
 use Rattle.calculus.specs.declared.packet.Item.{Item}
 use Rattle.calculus.specs.declared.packet.Item.the-variants.{Wire, Out, Up, Est, Auth, Grant, Ack}
 use Rattle.model.specs.Network.{isGateway}
-use Rattle.model.specs.Packet.{hopLimit, bare, under}
+use Rattle.model.specs.Packet.{hopLimit, isBare, under}
 use Rattle.model.specs.Rules.{establishmentLimit}
 use Rattle.model.specs.Termination.{tripSteps, establishmentSteps, ceiling}
-use Rattle.model.proofs.Trips.{Trip}
+use Rattle.model.proofs.Trips.{bareWith, Trip}
 use Rattle.model.proofs.Points.{walk, points, Between}
 
 -- with n steps taken and k to go in establishment b, the ceiling leaves those to come and the Done's
@@ -55,20 +54,20 @@ module _ (net : Network) (c d : ℕ) where
 
   -- an item of the set-up, with b establishments begun and n steps taken. Nothing is said of rows
   pub data Underway (b n : ℕ) : Item → Type 0 where
-    discovering : (a h : ℕ) → Discovering b n a h → Underway b n (Wire a (bare c d (Disc (point b))) h)
+    discovering : (a h : ℕ) → Discovering b n a h → Underway b n (Wire a (bareWith c d (Disc (point b)) h))
     establishing : (i : ℕ) → Begun b i → Leaves b n (6 + tripSteps + tripSteps) → Underway b n (Est (point b) (point i) b)
-    requesting : {j : ℕ} {x : Item} (i : ℕ) → Begun b i → Trip (bare (point b) (point i) (Req b)) j x → Leaves b n (5 + tripSteps + j) → Underway b n x
+    requesting : {j : ℕ} {x : Item} (i : ℕ) → Begun b i → Trip (point b) (point i) (Req b) j x → Leaves b n (5 + tripSteps + j) → Underway b n x
     responderAuth : (i : ℕ) → Begun b i → Leaves b n (5 + tripSteps) → Underway b n (Auth (point i) (point b) b Responder)
     responderGrant : (i : ℕ) → Begun b i → Leaves b n (4 + tripSteps) → Underway b n (Grant (point i) (point b) b Responder)
-    replying : {j : ℕ} {x : Item} (i : ℕ) → Begun b i → Trip (bare (point i) (point b) (Rep b)) j x → Leaves b n (3 + j) → Underway b n x
+    replying : {j : ℕ} {x : Item} (i : ℕ) → Begun b i → Trip (point i) (point b) (Rep b) j x → Leaves b n (3 + j) → Underway b n x
     initiatorAuth : (i : ℕ) → Begun b i → Leaves b n 3 → Underway b n (Auth (point b) (point i) b Initiator)
     initiatorGrant : (i : ℕ) → Begun b i → Leaves b n 2 → Underway b n (Grant (point b) (point i) b Initiator)
     acknowledging : (i : ℕ) → Begun b i → Leaves b n 1 → Underway b n (Ack (point b) b)
-    -- a Done at x, point k, or in the tunnel out of x: a way for each tunnel from there to the client
-    doneOut : (x k : ℕ) → Returning b x k → tripSteps * k + n ≤ ceiling → Underway b n (Out x (bare d c Done))
-    doneOnWire : (x k q : ℕ) (s : Spi) (y h : ℕ) → Returning b x k → tripSteps * (k - 1) + (h + 2) + n ≤ ceiling
-        → Underway b n (Wire y (under (bare d c Done) (Tunnel x q s)) h)
-    doneUp : (x k q : ℕ) (s : Spi) (y : ℕ) → Returning b x k → tripSteps * (k - 1) + 1 + n ≤ ceiling
-        → Underway b n (Up y (under (bare d c Done) (Tunnel x q s)))
+    -- a Done with the inner count m, at x, point k, or in the tunnel out of there: a way for each tunnel from there to the client
+    doneOut : (m x k : ℕ) → m ≤ hopLimit → Returning b x k → tripSteps * k + n ≤ ceiling → Underway b n (Out x (bareWith d c Done m))
+    doneOnWire : (m k : ℕ) (h : Header) (y : ℕ) → m ≤ hopLimit → isBare h ≡ false → Returning b (h .from) k
+        → tripSteps * (k - 1) + (h .hops + 2) + n ≤ ceiling → Underway b n (Wire y (under (bareWith d c Done m) h))
+    doneUp : (m k : ℕ) (h : Header) (y : ℕ) → m ≤ hopLimit → isBare h ≡ false → Returning b (h .from) k
+        → tripSteps * (k - 1) + 1 + n ≤ ceiling → Underway b n (Up y (under (bareWith d c Done m) h))
     -- with no tunnel out of a point it is on its last way
-    doneBare : {j : ℕ} {x : Item} → Trip (bare d c Done) j x → j < tripSteps → j + n ≤ ceiling → Underway b n x
+    doneBare : {j : ℕ} {x : Item} → Trip d c Done j x → j < tripSteps → j + n ≤ ceiling → Underway b n x

@@ -88,7 +88,7 @@ module _ (f : Item → Bool) where
 
 pub free-is : (i : Item) → isFree i ≡ true → i ≡ Free
 free-is Free k = refl
-free-is (Wire b p h) k = never k
+free-is (Wire b p) k = never k
 free-is (Out b p) k = never k
 free-is (Up b p) k = never k
 free-is (Est b c f) k = never k
@@ -117,7 +117,7 @@ same-wait (Establishment a e) (Establishment b f) k =
 
 is-wait : (i : Item) → isWait i ≡ true → i ≡ waitItem (waitIn i)
 is-wait Free k = refl
-is-wait (Wire b p h) k = never k
+is-wait (Wire b p) k = never k
 is-wait (Out b p) k = never k
 is-wait (Up b p) k = never k
 is-wait (Est b c f) k = never k

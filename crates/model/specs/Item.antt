@@ -14,7 +14,7 @@ use Rattle.model.specs.Packet.{isData}
 -- no item
 abbrev pub isFree : Item → Bool
 isFree Free = true
-isFree (Wire a p h) = false
+isFree (Wire a p) = false
 isFree (Out a p) = false
 isFree (Up a p) = false
 isFree (Est a b e) = false
@@ -27,7 +27,7 @@ isFree (Ewait a e) = false
 -- the wait that the item is: dwait(a), ewait(a, e) or none
 abbrev pub waitIn : Item → Wait
 waitIn Free = NoWait
-waitIn (Wire a p h) = NoWait
+waitIn (Wire a p) = NoWait
 waitIn (Out a p) = NoWait
 waitIn (Up a p) = NoWait
 waitIn (Est a b e) = NoWait
@@ -62,7 +62,7 @@ isThatWait w i = sameWait w (waitIn i)
 -- a packet with Data
 abbrev pub isDataItem : Item → Bool
 isDataItem Free = false
-isDataItem (Wire a p h) = isData (p .payload)
+isDataItem (Wire a p) = isData (p .payload)
 isDataItem (Out a p) = isData (p .payload)
 isDataItem (Up a p) = isData (p .payload)
 isDataItem (Est a b e) = false

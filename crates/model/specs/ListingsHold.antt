@@ -8,7 +8,6 @@ use mathlib.Core.Option.{some}
 use lib.Dec.{ltb, eqb}
 use lib.ListN.{take, replicate}
 use Rattle.calculus.specs.declared.packet.Header.{Header}
-use Rattle.calculus.specs.declared.packet.Header.the-variants.{Bare, Tunnel}
 use Rattle.calculus.specs.declared.packet.Item.{Item}
 use Rattle.calculus.specs.declared.packet.Item.the-variants.{Wire, Out, Ack, Dwait, Ewait}
 use Rattle.calculus.specs.declared.packet.Packet.{Packet}
@@ -24,6 +23,7 @@ use Rattle.forms.specs.declared.read.Parsed.{Parsed}
 use Rattle.forms.specs.declared.read.Parsed.the-variants.{Asks, Refused}
 use Rattle.forms.specs.Read.{read}
 use Rattle.forms.specs.Request.{asked}
+use Rattle.model.specs.Packet.{noHeader}
 use Rattle.model.specs.Item.{isWait, vacant}
 use Rattle.model.specs.State.{fresh, load}
 use Rattle.model.specs.Calls.{Call, call, linesOf, after, replies, roomyCall}
@@ -89,11 +89,11 @@ seenBehind l = view (after fresh (map callOf l)) 1
 abbrev pub item : ℕ → Item → Slot
 item k i = record { number = record { 0 = k }; item = i }
 
-abbrev pub packet : ℕ → ℕ → Payload → Header → Packet
-packet from to y h = record { source = from; destination = to; payload = y; header = h }
+abbrev pub packet : ℕ → ℕ → Payload → ℕ → Header → Packet
+packet from to y hops h = record { source = from; destination = to; payload = y; hops = hops; header = h }
 
-abbrev pub header : ℕ → ℕ → ℕ → Header
-header from to spi = Tunnel from to (record { 0 = spi })
+abbrev pub header : ℕ → ℕ → ℕ → ℕ → Header
+header from to spi hops = record { from = from; to = to; spi = record { 0 = spi }; hops = hops }
 
 abbrev pub row : ℕ → Bool → ℕ → ℕ → ℕ → ℕ → Row
 row a out from to q e = record { node = a; out = out; source = from; destination = to; peers = record { first = q }; establishment = e }
@@ -149,8 +149,8 @@ middleOfC =
       sees = record {
         stage = Stage.SettingUp;
         ends = some (1, 2);
-        items = item 3 (Dwait 2) ∷ item 12 (Out 1 (packet 1 2 (Rep 1) Bare)) ∷ item 6 (Ewait 2 1)
-            ∷ item 14 (Wire 1 (packet 1 2 (Data 77) (header 1 2 288)) 32) ∷ [];
+        items = item 3 (Dwait 2) ∷ item 12 (Out 1 (packet 1 2 (Rep 1) 32 noHeader)) ∷ item 6 (Ewait 2 1)
+            ∷ item 14 (Wire 1 (packet 1 2 (Data 77) 32 (header 1 2 288 32))) ∷ [];
         rows = row 1 true 1 2 2 1 ∷ row 1 false 2 1 2 1 ∷ [];
         begun = 1;
         last = 14;
@@ -165,7 +165,7 @@ endOfC =
       sees = record {
         stage = Stage.SettingUp;
         ends = some (1, 2);
-        items = item 3 (Dwait 2) ∷ item 12 (Out 1 (packet 1 2 (Rep 1) Bare)) ∷ item 6 (Ewait 2 1) ∷ [];
+        items = item 3 (Dwait 2) ∷ item 12 (Out 1 (packet 1 2 (Rep 1) 32 noHeader)) ∷ item 6 (Ewait 2 1) ∷ [];
         rows = row 1 true 1 2 2 1 ∷ row 1 false 2 1 2 1 ∷ [];
         begun = 1;
         last = 16;
@@ -180,7 +180,7 @@ discOfAnAck =
       sees = record {
         stage = Stage.SettingUp;
         ends = some (1, 4);
-        items = item 20 (Wire 3 (packet 1 4 (Disc 2) Bare) 31) ∷ item 23 (Wire 2 (packet 1 4 (Data 77) (header 1 2 288)) 31) ∷ [];
+        items = item 20 (Wire 3 (packet 1 4 (Disc 2) 31 noHeader)) ∷ item 23 (Wire 2 (packet 1 4 (Data 77) 32 (header 1 2 288 31))) ∷ [];
         rows = row 1 true 1 4 2 1 ∷ row 1 false 4 1 2 1 ∷ row 2 true 4 1 1 1 ∷ row 2 false 1 4 1 1 ∷ [];
         begun = 1;
         last = 23;
@@ -213,7 +213,7 @@ sentOutAgain =
       sees = record {
         stage = Stage.SettingUp;
         ends = some (1, 3);
-        items = item 41 (Out 2 (packet 3 1 Done Bare)) ∷ [];
+        items = item 41 (Out 2 (packet 3 1 Done 32 noHeader)) ∷ [];
         rows = row 1 true 1 3 2 1 ∷ row 1 false 3 1 2 1 ∷ row 2 true 3 1 1 1 ∷ row 2 false 1 3 1 1
             ∷ row 2 true 1 3 3 2 ∷ row 2 false 3 1 3 2 ∷ row 3 true 3 1 2 2 ∷ row 3 false 1 3 2 2
             ∷ [];
@@ -230,7 +230,7 @@ onlyWaitsAndData =
       sees = record {
         stage = Stage.SettingUp;
         ends = some (1, 2);
-        items = item 3 (Dwait 2) ∷ item 9 (Wire 1 (packet 1 2 (Data 77) Bare) 32) ∷ item 6 (Ewait 2 1) ∷ [];
+        items = item 3 (Dwait 2) ∷ item 9 (Wire 1 (packet 1 2 (Data 77) 32 noHeader)) ∷ item 6 (Ewait 2 1) ∷ [];
         rows = [];
         begun = 1;
         last = 9;

@@ -28,7 +28,7 @@ use Rattle.calculus.specs.Table.{entriesFrom, onlyIf}
 use Rattle.forms.specs.Answer.{associationLine, endLine}
 use Rattle.model.specs.Lists.{place}
 use Rattle.model.specs.Network.{given, isGateway, isDefault, routePlace, isRouted}
-use Rattle.model.specs.Packet.{hopLimit, bare}
+use Rattle.model.specs.Packet.{bare}
 use Rattle.model.specs.Item.{isWait, isDataItem, howManyItems}
 use Rattle.model.specs.Row.{held, placeOut, placeNode, placePeer, raised, lowered, spiOf}
 use Rattle.model.specs.Rules.{rule}
@@ -142,7 +142,7 @@ madeNext t = Made (record { 0 = nextNumber t })
 
 -- "open u c d: stage setting up; writes wire(c, Disc(c) from c to d, 32)"
 unfoldable pub opening : Part → ℕ → ℕ → Part
-opening t c d = withItem t Stage.SettingUp c d (Wire c (bare c d (Disc c)) hopLimit)
+opening t c d = withItem t Stage.SettingUp c d (Wire c (bare c d (Disc c)))
 
 -- open 6, 4, 8, 9, 10
 unfoldable pub openMove : Network → ℕ → ℕ → Part → Move

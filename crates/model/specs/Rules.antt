@@ -1,5 +1,5 @@
 -- The seven rules of a step, each a function of what it reads that gives an effect. Assumes nothing.
-use Prim.Native.Nat.{ℕ, _+_, _-_}
+use Prim.Native.Nat.{ℕ, _+_}
 use mathlib.Core.Bool.{Bool, true, false, cond, not, _&&_, _||_}
 use mathlib.Core.List.{List}
 use lib.Dec.{leb, eqb}
@@ -17,7 +17,6 @@ use Rattle.calculus.specs.declared.network.NextHop.the-variants.{Exact, Default
 use Rattle.calculus.specs.declared.packet.Payload.{Payload}
 use Rattle.calculus.specs.declared.packet.Payload.the-variants.{Req, Rep, Disc, Done, Data}
 use Rattle.calculus.specs.declared.packet.Header.{Header}
-use Rattle.calculus.specs.declared.packet.Header.the-variants.{Bare, Tunnel}
 use Rattle.calculus.specs.declared.packet.Packet.{Packet}
 use Rattle.calculus.specs.declared.packet.Side.{Side}
 use Rattle.calculus.specs.declared.packet.Side.the-variants.{Responder, Initiator}
@@ -29,8 +28,8 @@ use Rattle.calculus.specs.declared.session.Session.{Session}
 use Rattle.calculus.specs.declared.state.Part.{Part}
 use Rattle.calculus.specs.declared.network.Network.{Network}
 use Rattle.model.specs.Network.{isGateway, nextHop, hasAllNeeded}
-use Rattle.model.specs.Packet.{hopLimit, bare, under, target, isBare, isDataOrDone}
-use Rattle.model.specs.Row.{noPeers, held, inRow, outRow, newest, admits, spiOf}
+use Rattle.model.specs.Packet.{hopLimit, noHeader, isBare, bare, under, target, hopsLeft, fewer, isDataOrDone}
+use Rattle.model.specs.Row.{held, inRow, outRow, newest, admits, spiOf}
 
 -- ---- effects
 
@@ -91,44 +90,50 @@ abbrev pub unprotected : Bool → Packet → Bool
 unprotected gateway p = gateway && (isBare (p .header) && isDataOrDone (p .payload))
 
 -- the last two cases, by what the look-up says: "Lost 3 is left for neither"
-abbrev pub onward : NextHop → Packet → ℕ → Effect
-onward (Exact next) p hops = writes (Wire next p (hops - 1))
-onward (Default next) p hops = only (WroteByDefault (Wire next p (hops - 1)))
-onward Missing p hops = lost NoRoute
+abbrev pub onward : NextHop → Packet → Effect
+onward (Exact next) p = writes (Wire next (fewer p))
+onward (Default next) p = only (WroteByDefault (Wire next (fewer p)))
+onward Missing p = lost NoRoute
 
--- wire(a, packet, h), where `look` gives a's next hop for a node: "the first that fits". No list of calls tells the order of lost 1 and
--- lost 2: bare Data or Done is lost at the first gateway, and with one of the 32 nodes a gateway it comes there before its 32 hops are
--- over, or never
-unfoldable pub wireRule : Bool → (ℕ → NextHop) → Session → ℕ → Packet → ℕ → Effect
-wireRule gateway look s a p h =
+-- wire(a, packet, h), where h is the count in use and `look` gives a's next hop for a node: "the first that fits". No list of calls tells
+-- the order of lost 1 and lost 2: bare Data or Done is lost at the first gateway, and with one of the 32 nodes a gateway it comes there
+-- before its 32 hops are over, or never
+unfoldable pub wireRule : Bool → (ℕ → NextHop) → Session → ℕ → Packet → Effect
+wireRule gateway look s a p =
     cond (discovers gateway (s .server) a (p .payload))
     (cond (isExhausted s) (lost Exhausted) (begin a (lastPoint (p .payload)) (s .begun + 1)))
     (cond (eqb a (target p)) (writes (Up a p))
     (cond (unprotected gateway p) (lost Unprotected)
-    (cond (eqb h 0) (lost HopLimit)
-    (onward (look (target p)) p h))))
+    (cond (eqb (hopsLeft p) 0) (lost HopLimit)
+    (onward (look (target p)) p))))
 
 -- ---- out
 
--- the header (a, peer, SPI) of the matching out row, or none
+-- the header (a, peer, SPI) of the matching out row, or none; it "brings an outer count of 32"
 abbrev pub headerTo : ℕ → Peers → Header
-headerTo a x = let q = x .first in cond (eqb q 0) Bare (Tunnel a q (spiOf true a q))
+headerTo a x =
+    let q = x .first in
+    cond (eqb q 0) noHeader (record { from = a; to = q; spi = spiOf true a q; hops = hopLimit })
 
--- out(a, packet)
+abbrev pub sent : List Row → ℕ → Packet → Effect
+sent rows a p = writes (Wire a (under p (headerTo a (newest rows true a p))))
+
+-- out(a, packet): its source created it, and "Sending out again at a node that didn't create the packet takes one from the inner count.
+-- If the inner count is already 0, that out step answers lost 2 instead." A packet here is bare, so the count in use is the inner one
 unfoldable pub outRule : List Row → ℕ → Packet → Effect
-outRule rows a p = writes (Wire a (under p (headerTo a (newest rows true a p))) hopLimit)
+outRule rows a p =
+    cond (eqb a (p .source)) (sent rows a p)
+    (cond (eqb (hopsLeft p) 0) (lost HopLimit) (sent rows a (fewer p)))
 
 -- ---- up
 
 -- the q of "Header from q"; of a bare packet none
 abbrev pub stripped : Header → Peers
-stripped Bare = noPeers
-stripped (Tunnel q to i) = record { first = q }
+stripped h = record { first = cond (isBare h) 0 (h .from) }
 
 -- a packet is bare, or "In(a, q) stands", which `standing a q` tells, "and an in row of this session at a has peer q"
 abbrev pub admitted : (ℕ → ℕ → Bool) → List Row → ℕ → Header → Bool
-admitted standing rows a Bare = true
-admitted standing rows a (Tunnel q to i) = standing a q && admits rows a q
+admitted standing rows a h = let q = h .from in isBare h || (standing a q && admits rows a q)
 
 -- "the matching in row's peer must be q, or with no row q must be none". No list of calls comes to a header that is admitted and
 -- matches no row
@@ -148,7 +153,7 @@ unfoldable pub upRule : (ℕ → ℕ → Bool) → List Row → ℕ → Packet �
 upRule standing rows a p =
     cond (not (admitted standing rows a (p .header))) (lost NoTunnel)
     (cond (not (matched rows a p)) (lost WrongTunnel)
-    (cond (not (eqb (p .destination) a)) (writes (Out a (under p Bare)))
+    (cond (not (eqb (p .destination) a)) (writes (Out a (under p noHeader)))
     (received a (p .source) (p .payload))))
 
 -- ---- est, auth
@@ -172,10 +177,10 @@ grantRule s a q e Initiator =
 
 -- ---- ack
 
--- "at d write out(d, Done from d to c), else wire(a, Disc(a) from c to d, 32)"
+-- "at d write out(d, Done from d to c), else wire(a, Disc(a) from c to d, 32)": "the Disc that an ack writes is a new packet"
 abbrev pub acknowledged : Session → ℕ → Item
 acknowledged s a =
-    cond (eqb a (s .server)) (Out a (bare (s .server) (s .client) Done)) (Wire a (bare (s .client) (s .server) (Disc a)) hopLimit)
+    cond (eqb a (s .server)) (Out a (bare (s .server) (s .client) Done)) (Wire a (bare (s .client) (s .server) (Disc a)))
 
 -- ack(a, e)
 unfoldable pub ackRule : Session → ℕ → Effect
@@ -186,7 +191,7 @@ ackRule s a = writesFor (Discovery a) (acknowledged s a)
 -- the rule of an item; `standing a q` tells whether In(a, q) stands. A free place and a wait are refused before.
 unfoldable pub rule : Network → (ℕ → ℕ → Bool) → Part → Item → Effect
 rule n standing t Free = neverMet
-rule n standing t (Wire a p h) = wireRule (isGateway n a) (nextHop n a) (t .session) a p h
+rule n standing t (Wire a p) = wireRule (isGateway n a) (nextHop n a) (t .session) a p
 rule n standing t (Out a p) = outRule (held t) a p
 rule n standing t (Up a p) = upRule standing (held t) a p
 rule n standing t (Est a b e) = estRule a b e

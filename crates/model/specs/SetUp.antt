@@ -14,6 +14,7 @@ use Rattle.calculus.specs.declared.network.NextHop.{NextHop}
 use Rattle.calculus.specs.declared.network.NextHop.the-variants.{Exact, Default, Missing}
 use Rattle.calculus.specs.declared.packet.Payload.{Payload}
 use Rattle.calculus.specs.declared.packet.Payload.the-variants.{Req, Rep, Disc, Done, Data}
+use Rattle.calculus.specs.declared.packet.Packet.{Packet}
 use Rattle.calculus.specs.declared.packet.Item.{Item}
 use Rattle.calculus.specs.declared.packet.Item.the-variants.{Free, Wire, Out, Up, Est, Auth, Grant, Ack, Dwait, Ewait}
 use Rattle.calculus.specs.declared.packet.Slot.{Slot}
@@ -22,6 +23,7 @@ use Rattle.calculus.specs.declared.state.State.{State}
 use Rattle.calculus.specs.Number.{within, isSession}
 use Rattle.model.specs.Lists.{tally, All, upFrom}
 use Rattle.model.specs.Network.{given, isGateway, nextHop}
+use Rattle.model.specs.Packet.{hopLimit, isBare}
 use Rattle.model.specs.Row.{held, areNodes, usersOf, stands}
 use Rattle.model.specs.Rules.{rule}
 use Rattle.model.specs.State.{fresh, load, blankSlot, isNumbered, putItem, addedRows, applied}
@@ -39,7 +41,7 @@ isSetUpItem i = isPending i && not (isDataItem i)
 
 abbrev pub isGrant : Item → Bool
 isGrant Free = false
-isGrant (Wire a p h) = false
+isGrant (Wire a p) = false
 isGrant (Out a p) = false
 isGrant (Up a p) = false
 isGrant (Est a b e) = false
@@ -59,7 +61,7 @@ isDisc (Data tag) = false
 -- a Disc anywhere but on a wire
 abbrev pub isDiscOffWire : Item → Bool
 isDiscOffWire Free = false
-isDiscOffWire (Wire a p h) = false
+isDiscOffWire (Wire a p) = false
 isDiscOffWire (Out a p) = isDisc (p .payload)
 isDiscOffWire (Up a p) = isDisc (p .payload)
 isDiscOffWire (Est a b e) = false
@@ -80,7 +82,7 @@ waitOfPacket a (Data tag) = NoWait
 -- the wait that the item is to use up: a Rep its ewait, an ack its dwait
 abbrev pub waitOf : Item → Wait
 waitOf Free = NoWait
-waitOf (Wire a p h) = waitOfPacket (p .destination) (p .payload)
+waitOf (Wire a p) = waitOfPacket (p .destination) (p .payload)
 waitOf (Out a p) = waitOfPacket (p .destination) (p .payload)
 waitOf (Up a p) = waitOfPacket (p .destination) (p .payload)
 waitOf (Est a b e) = NoWait
@@ -96,18 +98,22 @@ Pends l NoWait = Unit
 Pends l (Discovery a) = 1 ≤ howManyItems (isThatWait (Discovery a)) l
 Pends l (Establishment a e) = 1 ≤ howManyItems (isThatWait (Establishment a e)) l
 
--- the hops that a packet on a wire has left
-abbrev pub hopsOf : Item → ℕ
-hopsOf Free = 0
-hopsOf (Wire a p h) = h
-hopsOf (Out a p) = 0
-hopsOf (Up a p) = 0
-hopsOf (Est a b e) = 0
-hopsOf (Auth a q e side) = 0
-hopsOf (Grant a q e side) = 0
-hopsOf (Ack a e) = 0
-hopsOf (Dwait a) = 0
-hopsOf (Ewait a e) = 0
+-- neither count is above the 32 that it started with
+abbrev pub FewHops : Packet → Type 0
+FewHops p = (p .hops ≤ hopLimit) × (p .header .hops ≤ hopLimit)
+
+-- what holds of the item's packet, if it has one: at out it is bare, so that there the count in use is the inner one
+abbrev pub HoldsPacket : Item → Type 0
+HoldsPacket Free = Unit
+HoldsPacket (Wire a p) = FewHops p
+HoldsPacket (Out a p) = FewHops p × (isBare (p .header) ≡ true)
+HoldsPacket (Up a p) = FewHops p
+HoldsPacket (Est a b e) = Unit
+HoldsPacket (Auth a q e side) = Unit
+HoldsPacket (Grant a q e side) = Unit
+HoldsPacket (Ack a e) = Unit
+HoldsPacket (Dwait a) = Unit
+HoldsPacket (Ewait a e) = Unit
 
 -- ---- what a step leaves
 
@@ -163,8 +169,8 @@ pub record Holds (s : State) (t : Part) : Type 0 where
   pub rowNodes : All (λ r. areNodes (r .node) (r .peers .first) ≡ true) (held t)
   -- "with 8 establishments begun, lost 6"
   pub begun : t .session .begun ≤ 8
-  -- no packet on a wire has more than the 32 hops that it started with
-  pub hops : All (λ x. hopsOf (x .item) ≤ 32) (t .items)
+  -- no packet has more hops left than it started with, and at out none has a header
+  pub packets : All (λ x. HoldsPacket (x .item)) (t .items)
   -- "No Rep lacks its ewait, no ack its dwait"
   pub waits : (at : ℕ) → Pends (t .items) (waitOf (itemAt (t .items) at))
   -- "no Disc reaches up"

@@ -44,7 +44,7 @@ pub fn rule(n: Network, users: &[u16; 2048], t: Part, i: Item) -> Effect
     let held = s.rows;
     match i {
         Item::Free => never_met(),
-        Item::Wire(a, p, h) => wire(n, s, a, p, h),
+        Item::Wire(a, p) => wire(n, s, a, p),
         Item::Out(a, p) => out(rows, held, a, p),
         Item::Up(a, p) => up(users, rows, held, a, p),
         Item::Est(a, b, e) => est(a, b, e),

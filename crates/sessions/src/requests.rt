@@ -98,7 +98,7 @@ fn opening(t: Part, c: u8, d: u8) -> Part
     ensures { λ r. ⌜ r ≡ spec.opening t c d ⌝ }
 {
     let packet = bare(c, d, Payload::Disc(c));
-    with_item(t, Stage::SettingUp, c, d, Item::Wire(c, packet, 32))
+    with_item(t, Stage::SettingUp, c, d, Item::Wire(c, packet))
 }
 
 // open u c d, where `t` is u's part: refusals 6, 4, 8, 9, 10.

@@ -25,9 +25,11 @@ returns-3 c =
     simp (
       c .writes .ensures,
       c .before .under .ensures,
-      ne-eqb _ _ (c .before .before .if3 .taken),
-      join (c .before .before .before .before .before .matched .ensures) (not-false _ (c .before .before .before .before .if2 .left)),
-      join (c .before .before .before .before .before .before .before .admitted .ensures) (not-false _ (c .before .before .before .before .before .before .if1 .left)),
+      c .before .before .no-header .ensures,
+      ne-eqb _ _ (c .before .before .before .if3 .taken),
+      join (c .before .before .before .before .before .before .matched .ensures) (not-false _ (c .before .before .before .before .before .if2 .left)),
+      join (c .before .before .before .before .before .before .before .before .admitted .ensures)
+          (not-false _ (c .before .before .before .before .before .before .before .if1 .left)),
     )
 
 returns-4 : tie.Need-returns-4
@@ -43,4 +45,4 @@ returns-4 c =
 pub up-spec : {M : Type 1} → statement M
 up-spec =
     tie.close
-    (tie.spec (λ c κs. search needs) (λ c κs. search needs) returns (λ c κs. search needs) (λ c κs. search needs) returns-2 (λ c κs. search needs) (λ c κs. search needs) returns-3 (λ c κs. search needs) returns-4)
+    (tie.spec (λ c κs. search needs) (λ c κs. search needs) returns (λ c κs. search needs) (λ c κs. search needs) returns-2 (λ c κs. search needs) (λ c κs. search needs) (λ c κs. search needs) returns-3 (λ c κs. search needs) returns-4)

@@ -1,5 +1,5 @@
 -- `wire::first_fit` meets its contract. Assumes nothing.
-use borrow.Author.Tests.{eq-eqb, ne-eqb, le-leb, lt-leb}
+use borrow.Author.Tests.{le-leb, lt-leb}
 use borrow.Author.Needs.{needs}
 use native.Mathlib.Omega.{arith}
 use Rattle.calculus.proofs.Tests.{join}
@@ -50,10 +50,10 @@ unfolding wireRule
 returns-5 c =
     simp (
       c .lost3 .ensures,
-      eq-eqb _ _ (c .before .if5 .taken),
-      join (c .before .before .before .unprotected .ensures) (c .before .before .if4 .left),
-      join (c .before .before .before .before .before .arrived .ensures) (c .before .before .before .before .if3 .left),
-      join (c .before .before .before .before .before .before .before .discovers .ensures) (c .before .before .before .before .before .before .if1 .left),
+      join (c .before .before .no-hops-left .ensures) (c .before .if5 .taken),
+      join (c .before .before .before .before .unprotected .ensures) (c .before .before .before .if4 .left),
+      join (c .before .before .before .before .before .before .arrived .ensures) (c .before .before .before .before .before .if3 .left),
+      join (c .before .before .before .before .before .before .before .before .discovers .ensures) (c .before .before .before .before .before .before .before .if1 .left),
     )
 
 returns-6 : tie.Need-returns-6
@@ -61,13 +61,13 @@ unfolding wireRule
 returns-6 c =
     simp (
       c .routed .ensures,
-      ne-eqb _ _ (c .before .if5 .left),
-      join (c .before .before .before .unprotected .ensures) (c .before .before .if4 .left),
-      join (c .before .before .before .before .before .arrived .ensures) (c .before .before .before .before .if3 .left),
-      join (c .before .before .before .before .before .before .before .discovers .ensures) (c .before .before .before .before .before .before .if1 .left),
+      join (c .before .before .no-hops-left .ensures) (c .before .if5 .left),
+      join (c .before .before .before .before .unprotected .ensures) (c .before .before .before .if4 .left),
+      join (c .before .before .before .before .before .before .arrived .ensures) (c .before .before .before .before .before .if3 .left),
+      join (c .before .before .before .before .before .before .before .before .discovers .ensures) (c .before .before .before .before .before .before .before .if1 .left),
     )
 
 pub first-fit-spec : {M : Type 1} → statement M
 first-fit-spec =
     tie.close
-    (tie.spec (λ c κs. search needs) (λ c κs. search needs) returns (λ c κs. search needs) (λ c. search needs) (λ c κs. search needs) returns-2 (λ c κs. search needs) (λ c κs. search needs) returns-3 (λ c κs. search needs) (λ c κs. search needs) returns-4 (λ c κs. search needs) returns-5 (λ c κs. search needs) returns-6)
+    (tie.spec (λ c κs. search needs) (λ c κs. search needs) returns (λ c κs. search needs) (λ c. search needs) (λ c κs. search needs) returns-2 (λ c κs. search needs) (λ c κs. search needs) returns-3 (λ c κs. search needs) (λ c κs. search needs) returns-4 (λ c κs. search needs) (λ c κs. search needs) returns-5 (λ c κs. search needs) returns-6)
