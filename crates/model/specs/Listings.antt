@@ -251,6 +251,12 @@ firstOfThree =
 abbrev pub dataInFirstOfThree : Listing
 dataInFirstOfThree = firstOfThree ++ "(send 1 0 77)" ⇒ "(made 21)" ∷ "(step 1 21)" ⇒ "(made 22)" ∷ "(step 1 22)" ⇒ "(made 23)" ∷ []
 
+-- which comes out of it at gateway 2 and, with no tunnel on from there, leaves bare (#108: with one hop less) and is lost 1
+abbrev pub bareOutAgain : Listing
+bareOutAgain =
+    dataInFirstOfThree
+    ++ "(step 1 23)" ⇒ "(made 24)" ∷ "(step 1 24)" ⇒ "(made 25)" ∷ "(step 1 25)" ⇒ "(made 26)" ∷ "(step 1 26)" ⇒ "(lost 1)" ∷ []
+
 -- or the other two tunnels, and Done back through all three
 abbrev pub threeTunnels : Listing
 threeTunnels =
@@ -355,7 +361,132 @@ rowsAtOneMoment =
     ∷ "(step 1 14)" ⇒ "(delivered 77)" ∷ "(step 1 25)" ⇒ "(made 26)" ∷ "(step 1 18)" ⇒ "(lost 5)"
     ∷ []
 
+-- #108: on the circle data that came out of the first tunnel at gateway 2 goes on when 2 and 3 have rows for one another, and round in
+-- their tunnels. The 33rd time that it is sent out again its inner count is 0
+abbrev pub roundInTunnels : Listing
+roundInTunnels =
+    circle ++ "(open 1 1 4)" ⇒ "(made 1)" ∷ session 1 twoTunnels
+    ++ "(send 1 0 77)" ⇒ "(made 39)" ∷ "(step 1 39)" ⇒ "(made 40)" ∷ "(step 1 40)" ⇒ "(made 41)" ∷ "(step 1 41)" ⇒ "(made 42)"
+    ∷ "(step 1 42)" ⇒ "(made 43)" ∷ "(step 1 38)" ⇒ "(made 44 45)" ∷ "(step 1 45)" ⇒ "(made 46 47)" ∷ "(step 1 46)" ⇒ "(made 48)"
+    ∷ "(step 1 48)" ⇒ "(made 49)" ∷ "(step 1 49)" ⇒ "(made 50)" ∷ "(step 1 50)" ⇒ "(made 51)" ∷ "(step 1 51)" ⇒ "(made 52)"
+    ∷ "(step 1 52)" ⇒ "(made 53)" ∷ "(step 1 53)" ⇒ "(made 54)" ∷ "(step 1 54)" ⇒ "(made 55)" ∷ "(step 1 55)" ⇒ "(made 56)"
+    ∷ "(step 1 56)" ⇒ "(made 57)" ∷ "(step 1 57)" ⇒ "(made 58)" ∷ "(step 1 58)" ⇒ "(made 59)" ∷ "(step 1 59)" ⇒ "(made 60)"
+    ∷ "(step 1 43)" ⇒ "(made 61)" ∷ "(step 1 61)" ⇒ "(made 62)" ∷ "(step 1 62)" ⇒ "(made 63)" ∷ "(step 1 63)" ⇒ "(made 64)"
+    ∷ "(step 1 64)" ⇒ "(made 65)" ∷ "(step 1 65)" ⇒ "(made 66)" ∷ "(step 1 66)" ⇒ "(made 67)" ∷ "(step 1 67)" ⇒ "(made 68)"
+    ∷ "(step 1 68)" ⇒ "(made 69)" ∷ "(step 1 69)" ⇒ "(made 70)" ∷ "(step 1 70)" ⇒ "(made 71)" ∷ "(step 1 71)" ⇒ "(made 72)"
+    ∷ "(step 1 72)" ⇒ "(made 73)" ∷ "(step 1 73)" ⇒ "(made 74)" ∷ "(step 1 74)" ⇒ "(made 75)" ∷ "(step 1 75)" ⇒ "(made 76)"
+    ∷ "(step 1 76)" ⇒ "(made 77)" ∷ "(step 1 77)" ⇒ "(made 78)" ∷ "(step 1 78)" ⇒ "(made 79)" ∷ "(step 1 79)" ⇒ "(made 80)"
+    ∷ "(step 1 80)" ⇒ "(made 81)" ∷ "(step 1 81)" ⇒ "(made 82)" ∷ "(step 1 82)" ⇒ "(made 83)" ∷ "(step 1 83)" ⇒ "(made 84)"
+    ∷ "(step 1 84)" ⇒ "(made 85)" ∷ "(step 1 85)" ⇒ "(made 86)" ∷ "(step 1 86)" ⇒ "(made 87)" ∷ "(step 1 87)" ⇒ "(made 88)"
+    ∷ "(step 1 88)" ⇒ "(made 89)" ∷ "(step 1 89)" ⇒ "(made 90)" ∷ "(step 1 90)" ⇒ "(made 91)" ∷ "(step 1 91)" ⇒ "(made 92)"
+    ∷ "(step 1 92)" ⇒ "(made 93)" ∷ "(step 1 93)" ⇒ "(made 94)" ∷ "(step 1 94)" ⇒ "(made 95)" ∷ "(step 1 95)" ⇒ "(made 96)"
+    ∷ "(step 1 96)" ⇒ "(made 97)" ∷ "(step 1 97)" ⇒ "(made 98)" ∷ "(step 1 98)" ⇒ "(made 99)" ∷ "(step 1 99)" ⇒ "(made 100)"
+    ∷ "(step 1 100)" ⇒ "(made 101)" ∷ "(step 1 101)" ⇒ "(made 102)" ∷ "(step 1 102)" ⇒ "(made 103)" ∷ "(step 1 103)" ⇒ "(made 104)"
+    ∷ "(step 1 104)" ⇒ "(made 105)" ∷ "(step 1 105)" ⇒ "(made 106)" ∷ "(step 1 106)" ⇒ "(made 107)" ∷ "(step 1 107)" ⇒ "(made 108)"
+    ∷ "(step 1 108)" ⇒ "(made 109)" ∷ "(step 1 109)" ⇒ "(made 110)" ∷ "(step 1 110)" ⇒ "(made 111)" ∷ "(step 1 111)" ⇒ "(made 112)"
+    ∷ "(step 1 112)" ⇒ "(made 113)" ∷ "(step 1 113)" ⇒ "(made 114)" ∷ "(step 1 114)" ⇒ "(made 115)" ∷ "(step 1 115)" ⇒ "(made 116)"
+    ∷ "(step 1 116)" ⇒ "(made 117)" ∷ "(step 1 117)" ⇒ "(made 118)" ∷ "(step 1 118)" ⇒ "(made 119)" ∷ "(step 1 119)" ⇒ "(made 120)"
+    ∷ "(step 1 120)" ⇒ "(made 121)" ∷ "(step 1 121)" ⇒ "(made 122)" ∷ "(step 1 122)" ⇒ "(made 123)" ∷ "(step 1 123)" ⇒ "(made 124)"
+    ∷ "(step 1 124)" ⇒ "(made 125)" ∷ "(step 1 125)" ⇒ "(made 126)" ∷ "(step 1 126)" ⇒ "(made 127)" ∷ "(step 1 127)" ⇒ "(made 128)"
+    ∷ "(step 1 128)" ⇒ "(made 129)" ∷ "(step 1 129)" ⇒ "(made 130)" ∷ "(step 1 130)" ⇒ "(made 131)" ∷ "(step 1 131)" ⇒ "(made 132)"
+    ∷ "(step 1 132)" ⇒ "(made 133)" ∷ "(step 1 133)" ⇒ "(made 134)" ∷ "(step 1 134)" ⇒ "(made 135)" ∷ "(step 1 135)" ⇒ "(made 136)"
+    ∷ "(step 1 136)" ⇒ "(made 137)" ∷ "(step 1 137)" ⇒ "(made 138)" ∷ "(step 1 138)" ⇒ "(made 139)" ∷ "(step 1 139)" ⇒ "(made 140)"
+    ∷ "(step 1 140)" ⇒ "(made 141)" ∷ "(step 1 141)" ⇒ "(made 142)" ∷ "(step 1 142)" ⇒ "(made 143)" ∷ "(step 1 143)" ⇒ "(made 144)"
+    ∷ "(step 1 144)" ⇒ "(made 145)" ∷ "(step 1 145)" ⇒ "(made 146)" ∷ "(step 1 146)" ⇒ "(made 147)" ∷ "(step 1 147)" ⇒ "(made 148)"
+    ∷ "(step 1 148)" ⇒ "(made 149)" ∷ "(step 1 149)" ⇒ "(made 150)" ∷ "(step 1 150)" ⇒ "(made 151)" ∷ "(step 1 151)" ⇒ "(made 152)"
+    ∷ "(step 1 152)" ⇒ "(made 153)" ∷ "(step 1 153)" ⇒ "(made 154)" ∷ "(step 1 154)" ⇒ "(made 155)" ∷ "(step 1 155)" ⇒ "(made 156)"
+    ∷ "(step 1 156)" ⇒ "(made 157)" ∷ "(step 1 157)" ⇒ "(made 158)" ∷ "(step 1 158)" ⇒ "(made 159)" ∷ "(step 1 159)" ⇒ "(made 160)"
+    ∷ "(step 1 160)" ⇒ "(made 161)" ∷ "(step 1 161)" ⇒ "(made 162)" ∷ "(step 1 162)" ⇒ "(made 163)" ∷ "(step 1 163)" ⇒ "(made 164)"
+    ∷ "(step 1 164)" ⇒ "(made 165)" ∷ "(step 1 165)" ⇒ "(made 166)" ∷ "(step 1 166)" ⇒ "(made 167)" ∷ "(step 1 167)" ⇒ "(made 168)"
+    ∷ "(step 1 168)" ⇒ "(made 169)" ∷ "(step 1 169)" ⇒ "(made 170)" ∷ "(step 1 170)" ⇒ "(made 171)" ∷ "(step 1 171)" ⇒ "(made 172)"
+    ∷ "(step 1 172)" ⇒ "(made 173)" ∷ "(step 1 173)" ⇒ "(made 174)" ∷ "(step 1 174)" ⇒ "(made 175)" ∷ "(step 1 175)" ⇒ "(made 176)"
+    ∷ "(step 1 176)" ⇒ "(made 177)" ∷ "(step 1 177)" ⇒ "(made 178)" ∷ "(step 1 178)" ⇒ "(made 179)" ∷ "(step 1 179)" ⇒ "(made 180)"
+    ∷ "(step 1 180)" ⇒ "(made 181)" ∷ "(step 1 181)" ⇒ "(made 182)" ∷ "(step 1 182)" ⇒ "(made 183)" ∷ "(step 1 183)" ⇒ "(made 184)"
+    ∷ "(step 1 184)" ⇒ "(made 185)" ∷ "(step 1 185)" ⇒ "(made 186)" ∷ "(step 1 186)" ⇒ "(made 187)" ∷ "(step 1 187)" ⇒ "(made 188)"
+    ∷ "(step 1 188)" ⇒ "(lost 2)"
+    ∷ []
+
+-- the longest chain, of eight tunnels, through seven gateways in a circle: hosts aside, what a real network cuts. The data has come
+-- through 32 of the tunnels when gateway 6 is to send it out again
+abbrev pub longChain : Listing
+longChain =
+    "(node 1 host (has) (needs))" ⇒ "(ok)" ∷ "(node 2 gate (has) (needs))" ⇒ "(ok)" ∷ "(node 3 gate (has) (needs))" ⇒ "(ok)"
+    ∷ "(node 4 gate (has) (needs))" ⇒ "(ok)" ∷ "(node 5 gate (has) (needs))" ⇒ "(ok)" ∷ "(node 6 gate (has) (needs))" ⇒ "(ok)"
+    ∷ "(node 7 gate (has) (needs))" ⇒ "(ok)" ∷ "(node 8 gate (has) (needs))" ⇒ "(ok)" ∷ "(node 9 host (has) (needs))" ⇒ "(ok)"
+    ∷ "(route 1 2 2)" ⇒ "(ok)" ∷ "(route 1 9 2)" ⇒ "(ok)" ∷ "(route 2 1 1)" ⇒ "(ok)" ∷ "(route 2 3 3)" ⇒ "(ok)"
+    ∷ "(route 2 8 8)" ⇒ "(ok)" ∷ "(route 2 9 3)" ⇒ "(ok)" ∷ "(route 3 2 2)" ⇒ "(ok)" ∷ "(route 3 4 4)" ⇒ "(ok)"
+    ∷ "(route 3 9 4)" ⇒ "(ok)" ∷ "(route 4 3 3)" ⇒ "(ok)" ∷ "(route 4 5 5)" ⇒ "(ok)" ∷ "(route 4 9 5)" ⇒ "(ok)"
+    ∷ "(route 5 4 4)" ⇒ "(ok)" ∷ "(route 5 6 6)" ⇒ "(ok)" ∷ "(route 5 9 6)" ⇒ "(ok)" ∷ "(route 6 5 5)" ⇒ "(ok)"
+    ∷ "(route 6 7 7)" ⇒ "(ok)" ∷ "(route 6 9 7)" ⇒ "(ok)" ∷ "(route 7 6 6)" ⇒ "(ok)" ∷ "(route 7 8 8)" ⇒ "(ok)"
+    ∷ "(route 7 9 8)" ⇒ "(ok)" ∷ "(route 8 2 2)" ⇒ "(ok)" ∷ "(route 8 7 7)" ⇒ "(ok)" ∷ "(route 8 9 2)" ⇒ "(ok)"
+    ∷ "(open 1 1 9)" ⇒ "(made 1)" ∷ session 1 toAck
+    ++ "(send 1 0 77)" ⇒ "(made 20)" ∷ "(step 1 20)" ⇒ "(made 21)" ∷ "(step 1 21)" ⇒ "(made 22)" ∷ "(step 1 22)" ⇒ "(made 23)"
+    ∷ "(step 1 23)" ⇒ "(made 24)" ∷ "(step 1 19)" ⇒ "(made 25)" ∷ "(step 1 25)" ⇒ "(made 26 27)" ∷ "(step 1 27)" ⇒ "(made 28 29)"
+    ∷ "(step 1 28)" ⇒ "(made 30)" ∷ "(step 1 30)" ⇒ "(made 31)" ∷ "(step 1 31)" ⇒ "(made 32)" ∷ "(step 1 32)" ⇒ "(made 33)"
+    ∷ "(step 1 33)" ⇒ "(made 34)" ∷ "(step 1 34)" ⇒ "(made 35)" ∷ "(step 1 35)" ⇒ "(made 36)" ∷ "(step 1 36)" ⇒ "(made 37)"
+    ∷ "(step 1 37)" ⇒ "(made 38)" ∷ "(step 1 38)" ⇒ "(made 39)" ∷ "(step 1 39)" ⇒ "(made 40)" ∷ "(step 1 40)" ⇒ "(made 41)"
+    ∷ "(step 1 41)" ⇒ "(made 42)" ∷ "(step 1 42)" ⇒ "(made 43)" ∷ "(step 1 43)" ⇒ "(made 44 45)" ∷ "(step 1 45)" ⇒ "(made 46 47)"
+    ∷ "(step 1 46)" ⇒ "(made 48)" ∷ "(step 1 48)" ⇒ "(made 49)" ∷ "(step 1 49)" ⇒ "(made 50)" ∷ "(step 1 50)" ⇒ "(made 51)"
+    ∷ "(step 1 51)" ⇒ "(made 52)" ∷ "(step 1 52)" ⇒ "(made 53)" ∷ "(step 1 53)" ⇒ "(made 54)" ∷ "(step 1 54)" ⇒ "(made 55)"
+    ∷ "(step 1 55)" ⇒ "(made 56)" ∷ "(step 1 56)" ⇒ "(made 57)" ∷ "(step 1 57)" ⇒ "(made 58)" ∷ "(step 1 58)" ⇒ "(made 59)"
+    ∷ "(step 1 59)" ⇒ "(made 60)" ∷ "(step 1 60)" ⇒ "(made 61)" ∷ "(step 1 61)" ⇒ "(made 62 63)" ∷ "(step 1 63)" ⇒ "(made 64 65)"
+    ∷ "(step 1 64)" ⇒ "(made 66)" ∷ "(step 1 66)" ⇒ "(made 67)" ∷ "(step 1 67)" ⇒ "(made 68)" ∷ "(step 1 68)" ⇒ "(made 69)"
+    ∷ "(step 1 69)" ⇒ "(made 70)" ∷ "(step 1 70)" ⇒ "(made 71)" ∷ "(step 1 71)" ⇒ "(made 72)" ∷ "(step 1 72)" ⇒ "(made 73)"
+    ∷ "(step 1 73)" ⇒ "(made 74)" ∷ "(step 1 74)" ⇒ "(made 75)" ∷ "(step 1 75)" ⇒ "(made 76)" ∷ "(step 1 76)" ⇒ "(made 77)"
+    ∷ "(step 1 77)" ⇒ "(made 78)" ∷ "(step 1 78)" ⇒ "(made 79)" ∷ "(step 1 79)" ⇒ "(made 80 81)" ∷ "(step 1 81)" ⇒ "(made 82 83)"
+    ∷ "(step 1 82)" ⇒ "(made 84)" ∷ "(step 1 84)" ⇒ "(made 85)" ∷ "(step 1 85)" ⇒ "(made 86)" ∷ "(step 1 86)" ⇒ "(made 87)"
+    ∷ "(step 1 87)" ⇒ "(made 88)" ∷ "(step 1 88)" ⇒ "(made 89)" ∷ "(step 1 89)" ⇒ "(made 90)" ∷ "(step 1 90)" ⇒ "(made 91)"
+    ∷ "(step 1 91)" ⇒ "(made 92)" ∷ "(step 1 92)" ⇒ "(made 93)" ∷ "(step 1 93)" ⇒ "(made 94)" ∷ "(step 1 94)" ⇒ "(made 95)"
+    ∷ "(step 1 95)" ⇒ "(made 96)" ∷ "(step 1 96)" ⇒ "(made 97)" ∷ "(step 1 97)" ⇒ "(made 98 99)" ∷ "(step 1 99)" ⇒ "(made 100 101)"
+    ∷ "(step 1 100)" ⇒ "(made 102)" ∷ "(step 1 102)" ⇒ "(made 103)" ∷ "(step 1 103)" ⇒ "(made 104)" ∷ "(step 1 104)" ⇒ "(made 105)"
+    ∷ "(step 1 105)" ⇒ "(made 106)" ∷ "(step 1 106)" ⇒ "(made 107)" ∷ "(step 1 107)" ⇒ "(made 108)" ∷ "(step 1 108)" ⇒ "(made 109)"
+    ∷ "(step 1 109)" ⇒ "(made 110)" ∷ "(step 1 110)" ⇒ "(made 111)" ∷ "(step 1 111)" ⇒ "(made 112)" ∷ "(step 1 112)" ⇒ "(made 113)"
+    ∷ "(step 1 113)" ⇒ "(made 114)" ∷ "(step 1 114)" ⇒ "(made 115)" ∷ "(step 1 115)" ⇒ "(made 116 117)"
+    ∷ "(step 1 117)" ⇒ "(made 118 119)" ∷ "(step 1 118)" ⇒ "(made 120)" ∷ "(step 1 120)" ⇒ "(made 121)"
+    ∷ "(step 1 121)" ⇒ "(made 122)" ∷ "(step 1 122)" ⇒ "(made 123)" ∷ "(step 1 123)" ⇒ "(made 124)" ∷ "(step 1 124)" ⇒ "(made 125)"
+    ∷ "(step 1 125)" ⇒ "(made 126)" ∷ "(step 1 126)" ⇒ "(made 127)" ∷ "(step 1 127)" ⇒ "(made 128)" ∷ "(step 1 128)" ⇒ "(made 129)"
+    ∷ "(step 1 129)" ⇒ "(made 130)" ∷ "(step 1 130)" ⇒ "(made 131)" ∷ "(step 1 131)" ⇒ "(made 132)" ∷ "(step 1 132)" ⇒ "(made 133)"
+    ∷ "(step 1 133)" ⇒ "(made 134 135)" ∷ "(step 1 135)" ⇒ "(made 136 137)" ∷ "(step 1 136)" ⇒ "(made 138)"
+    ∷ "(step 1 138)" ⇒ "(made 139)" ∷ "(step 1 139)" ⇒ "(made 140)" ∷ "(step 1 140)" ⇒ "(made 141)" ∷ "(step 1 141)" ⇒ "(made 142)"
+    ∷ "(step 1 142)" ⇒ "(made 143)" ∷ "(step 1 143)" ⇒ "(made 144)" ∷ "(step 1 144)" ⇒ "(made 145)" ∷ "(step 1 145)" ⇒ "(made 146)"
+    ∷ "(step 1 146)" ⇒ "(made 147)" ∷ "(step 1 147)" ⇒ "(made 148)" ∷ "(step 1 148)" ⇒ "(made 149)" ∷ "(step 1 149)" ⇒ "(made 150)"
+    ∷ "(step 1 150)" ⇒ "(made 151)" ∷ "(step 1 151)" ⇒ "(lost 6)"
+    ∷ "(step 1 24)" ⇒ "(made 152)" ∷ "(step 1 152)" ⇒ "(made 153)" ∷ "(step 1 153)" ⇒ "(made 154)" ∷ "(step 1 154)" ⇒ "(made 155)"
+    ∷ "(step 1 155)" ⇒ "(made 156)" ∷ "(step 1 156)" ⇒ "(made 157)" ∷ "(step 1 157)" ⇒ "(made 158)" ∷ "(step 1 158)" ⇒ "(made 159)"
+    ∷ "(step 1 159)" ⇒ "(made 160)" ∷ "(step 1 160)" ⇒ "(made 161)" ∷ "(step 1 161)" ⇒ "(made 162)" ∷ "(step 1 162)" ⇒ "(made 163)"
+    ∷ "(step 1 163)" ⇒ "(made 164)" ∷ "(step 1 164)" ⇒ "(made 165)" ∷ "(step 1 165)" ⇒ "(made 166)" ∷ "(step 1 166)" ⇒ "(made 167)"
+    ∷ "(step 1 167)" ⇒ "(made 168)" ∷ "(step 1 168)" ⇒ "(made 169)" ∷ "(step 1 169)" ⇒ "(made 170)" ∷ "(step 1 170)" ⇒ "(made 171)"
+    ∷ "(step 1 171)" ⇒ "(made 172)" ∷ "(step 1 172)" ⇒ "(made 173)" ∷ "(step 1 173)" ⇒ "(made 174)" ∷ "(step 1 174)" ⇒ "(made 175)"
+    ∷ "(step 1 175)" ⇒ "(made 176)" ∷ "(step 1 176)" ⇒ "(made 177)" ∷ "(step 1 177)" ⇒ "(made 178)" ∷ "(step 1 178)" ⇒ "(made 179)"
+    ∷ "(step 1 179)" ⇒ "(made 180)" ∷ "(step 1 180)" ⇒ "(made 181)" ∷ "(step 1 181)" ⇒ "(made 182)" ∷ "(step 1 182)" ⇒ "(made 183)"
+    ∷ "(step 1 183)" ⇒ "(made 184)" ∷ "(step 1 184)" ⇒ "(made 185)" ∷ "(step 1 185)" ⇒ "(made 186)" ∷ "(step 1 186)" ⇒ "(made 187)"
+    ∷ "(step 1 187)" ⇒ "(made 188)" ∷ "(step 1 188)" ⇒ "(made 189)" ∷ "(step 1 189)" ⇒ "(made 190)" ∷ "(step 1 190)" ⇒ "(made 191)"
+    ∷ "(step 1 191)" ⇒ "(made 192)" ∷ "(step 1 192)" ⇒ "(made 193)" ∷ "(step 1 193)" ⇒ "(made 194)" ∷ "(step 1 194)" ⇒ "(made 195)"
+    ∷ "(step 1 195)" ⇒ "(made 196)" ∷ "(step 1 196)" ⇒ "(made 197)" ∷ "(step 1 197)" ⇒ "(made 198)" ∷ "(step 1 198)" ⇒ "(made 199)"
+    ∷ "(step 1 199)" ⇒ "(made 200)" ∷ "(step 1 200)" ⇒ "(made 201)" ∷ "(step 1 201)" ⇒ "(made 202)" ∷ "(step 1 202)" ⇒ "(made 203)"
+    ∷ "(step 1 203)" ⇒ "(made 204)" ∷ "(step 1 204)" ⇒ "(made 205)" ∷ "(step 1 205)" ⇒ "(made 206)" ∷ "(step 1 206)" ⇒ "(made 207)"
+    ∷ "(step 1 207)" ⇒ "(made 208)" ∷ "(step 1 208)" ⇒ "(made 209)" ∷ "(step 1 209)" ⇒ "(made 210)" ∷ "(step 1 210)" ⇒ "(made 211)"
+    ∷ "(step 1 211)" ⇒ "(made 212)" ∷ "(step 1 212)" ⇒ "(made 213)" ∷ "(step 1 213)" ⇒ "(made 214)" ∷ "(step 1 214)" ⇒ "(made 215)"
+    ∷ "(step 1 215)" ⇒ "(made 216)" ∷ "(step 1 216)" ⇒ "(made 217)" ∷ "(step 1 217)" ⇒ "(made 218)" ∷ "(step 1 218)" ⇒ "(made 219)"
+    ∷ "(step 1 219)" ⇒ "(made 220)" ∷ "(step 1 220)" ⇒ "(made 221)" ∷ "(step 1 221)" ⇒ "(made 222)" ∷ "(step 1 222)" ⇒ "(made 223)"
+    ∷ "(step 1 223)" ⇒ "(made 224)" ∷ "(step 1 224)" ⇒ "(made 225)" ∷ "(step 1 225)" ⇒ "(made 226)" ∷ "(step 1 226)" ⇒ "(made 227)"
+    ∷ "(step 1 227)" ⇒ "(made 228)" ∷ "(step 1 228)" ⇒ "(made 229)" ∷ "(step 1 229)" ⇒ "(made 230)" ∷ "(step 1 230)" ⇒ "(made 231)"
+    ∷ "(step 1 231)" ⇒ "(made 232)" ∷ "(step 1 232)" ⇒ "(made 233)" ∷ "(step 1 233)" ⇒ "(made 234)" ∷ "(step 1 234)" ⇒ "(made 235)"
+    ∷ "(step 1 235)" ⇒ "(made 236)" ∷ "(step 1 236)" ⇒ "(made 237)" ∷ "(step 1 237)" ⇒ "(made 238)" ∷ "(step 1 238)" ⇒ "(made 239)"
+    ∷ "(step 1 239)" ⇒ "(made 240)" ∷ "(step 1 240)" ⇒ "(made 241)" ∷ "(step 1 241)" ⇒ "(made 242)" ∷ "(step 1 242)" ⇒ "(made 243)"
+    ∷ "(step 1 243)" ⇒ "(made 244)" ∷ "(step 1 244)" ⇒ "(made 245)" ∷ "(step 1 245)" ⇒ "(made 246)" ∷ "(step 1 246)" ⇒ "(made 247)"
+    ∷ "(step 1 247)" ⇒ "(made 248)" ∷ "(step 1 248)" ⇒ "(made 249)" ∷ "(step 1 249)" ⇒ "(made 250)" ∷ "(step 1 250)" ⇒ "(made 251)"
+    ∷ "(step 1 251)" ⇒ "(made 252)" ∷ "(step 1 252)" ⇒ "(made 253)" ∷ "(step 1 253)" ⇒ "(made 254)" ∷ "(step 1 254)" ⇒ "(made 255)"
+    ∷ "(step 1 255)" ⇒ "(made 256)" ∷ "(step 1 256)" ⇒ "(made 257)" ∷ "(step 1 257)" ⇒ "(made 258)" ∷ "(step 1 258)" ⇒ "(made 259)"
+    ∷ "(step 1 259)" ⇒ "(made 260)" ∷ "(step 1 260)" ⇒ "(made 261)" ∷ "(step 1 261)" ⇒ "(made 262)" ∷ "(step 1 262)" ⇒ "(made 263)"
+    ∷ "(step 1 263)" ⇒ "(made 264)" ∷ "(step 1 264)" ⇒ "(made 265)" ∷ "(step 1 265)" ⇒ "(made 266)" ∷ "(step 1 266)" ⇒ "(made 267)"
+    ∷ "(step 1 267)" ⇒ "(made 268)" ∷ "(step 1 268)" ⇒ "(made 269)" ∷ "(step 1 269)" ⇒ "(made 270)" ∷ "(step 1 270)" ⇒ "(made 271)"
+    ∷ "(step 1 271)" ⇒ "(made 272)" ∷ "(step 1 272)" ⇒ "(made 273)" ∷ "(step 1 273)" ⇒ "(made 274)" ∷ "(step 1 274)" ⇒ "(made 275)"
+    ∷ "(step 1 275)" ⇒ "(made 276)" ∷ "(step 1 276)" ⇒ "(made 277)" ∷ "(step 1 277)" ⇒ "(made 278)" ∷ "(step 1 278)" ⇒ "(made 279)"
+    ∷ "(step 1 279)" ⇒ "(lost 2)"
+    ∷ []
+
 abbrev pub furtherExamples : List Listing
 furtherExamples =
-    throughGateway ∷ newestOfTwoRows ∷ exhausted ∷ dataInFirstOfThree ∷ threeTunnels ∷ serverSends ∷ lossesAtAGateway ∷ refusalsInOrder
-    ∷ networkGivenBack ∷ shownInOrder ∷ waitsLeft ∷ defaultWayOut ∷ rowsAtOneMoment ∷ []
+    throughGateway ∷ newestOfTwoRows ∷ exhausted ∷ bareOutAgain ∷ threeTunnels ∷ serverSends ∷ lossesAtAGateway ∷ refusalsInOrder
+    ∷ networkGivenBack ∷ shownInOrder ∷ waitsLeft ∷ defaultWayOut ∷ rowsAtOneMoment ∷ roundInTunnels ∷ longChain ∷ []

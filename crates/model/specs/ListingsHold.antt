@@ -30,7 +30,7 @@ use Rattle.model.specs.Calls.{Call, call, linesOf, after, replies, roomy
 use Rattle.model.specs.Noninterference.{View, view}
 use Rattle.model.specs.Termination.{setUpSteps, afterRounds}
 use Rattle.model.specs.JoinListings.{JoinListings}
-use Rattle.model.specs.Listings.{Exchange, Listing, listings, listingA, listingB, listingC, listingF, throughGateway, dataInFirstOfThree, threeTunnels, waitsLeft, furtherExamples}
+use Rattle.model.specs.Listings.{Exchange, Listing, listings, listingA, listingB, listingC, listingF, throughGateway, dataInFirstOfThree, bareOutAgain, threeTunnels, waitsLeft, roundInTunnels, furtherExamples}
 
 -- ---- what is written
 
@@ -222,6 +222,54 @@ sentOutAgain =
       };
     }
 
+-- and after that out: with one hop less, under a header that brings its own 32
+abbrev pub fewerBySending : Moment
+fewerBySending =
+    record {
+      calls = take 47 throughGateway;
+      sees = record {
+        stage = Stage.SettingUp;
+        ends = some (1, 3);
+        items = item 42 (Wire 2 (packet 3 1 Done 31 (header 2 1 257 32))) ∷ [];
+        rows = sentOutAgain .sees .rows;
+        begun = 2;
+        last = 42;
+      };
+    }
+
+-- data with no tunnel on from gateway 2 has one hop less as well
+abbrev pub fewerBare : Moment
+fewerBare =
+    record {
+      calls = take 38 bareOutAgain;
+      sees = record {
+        stage = Stage.SettingUp;
+        ends = some (1, 4);
+        items = item 20 (Wire 3 (packet 1 4 (Disc 2) 31 noHeader)) ∷ item 26 (Wire 2 (packet 1 4 (Data 77) 31 noHeader)) ∷ [];
+        rows = discOfAnAck .sees .rows;
+        begun = 1;
+        last = 26;
+      };
+    }
+
+-- data on the circle before it is sent out again for the 33rd time
+abbrev pub noHopsLeft : Moment
+noHopsLeft =
+    record {
+      calls = take 193 roundInTunnels;
+      sees = record {
+        stage = Stage.SettingUp;
+        ends = some (1, 4);
+        items = item 44 (Dwait 2) ∷ item 188 (Out 2 (packet 1 4 (Data 77) 0 noHeader)) ∷ item 60 (Ack 2 3) ∷ [];
+        rows = row 1 true 1 4 2 1 ∷ row 1 false 4 1 2 1 ∷ row 2 true 4 1 1 1 ∷ row 2 false 1 4 1 1
+            ∷ row 2 true 1 4 3 2 ∷ row 2 false 4 1 3 2 ∷ row 3 true 4 1 2 2 ∷ row 3 false 1 4 2 2
+            ∷ row 3 true 1 4 2 3 ∷ row 3 false 4 1 2 3 ∷ row 2 true 4 1 3 3 ∷ row 2 false 1 4 3 3
+            ∷ [];
+        begun = 3;
+        last = 188;
+      };
+    }
+
 -- where the Req is lost: waits and Data
 abbrev pub onlyWaitsAndData : Moment
 onlyWaitsAndData =
@@ -238,7 +286,8 @@ onlyWaitsAndData =
     }
 
 abbrev pub moments : List Moment
-moments = beforeAck ∷ endOfB ∷ endOfF ∷ middleOfC ∷ endOfC ∷ discOfAnAck ∷ endOfThreeTunnels ∷ sentOutAgain ∷ onlyWaitsAndData ∷ []
+moments = beforeAck ∷ endOfB ∷ endOfF ∷ middleOfC ∷ endOfC ∷ discOfAnAck ∷ endOfThreeTunnels ∷ sentOutAgain ∷ fewerBySending ∷ fewerBare ∷ noHopsLeft
+    ∷ onlyWaitsAndData ∷ []
 
 -- ---- how many steps session 1 took
 
