@@ -88,25 +88,20 @@ fn onward(next: NextHop, p: Packet) -> Effect
     ensures { λ r. ⌜ r ≡ spec.onward next p ⌝ }
 {
     match next {
-        NextHop::Exact(node) => {
-            let moved = fewer(p);
-            writes(Item::Wire(node, moved))
-        }
-        NextHop::Default(node) => {
-            let moved = fewer(p);
-            only(Outcome::WroteByDefault(Item::Wire(node, moved)))
-        }
+        NextHop::Exact(node) => writes(Item::Wire(node, p)),
+        NextHop::Default(node) => only(Outcome::WroteByDefault(Item::Wire(node, p))),
         NextHop::Missing => lost(Loss::NoRoute),
     }
 }
 
-// Onward by the route from `a` to the packet's target.
+// Onward by the route from `a` to the packet's target, with one hop less.
 fn routed(n: Network, a: u8, p: Packet) -> Effect
-    ensures { λ r. ⌜ r ≡ spec.onward (nextHop n a (packet.target p)) p ⌝ }
+    ensures { λ r. ⌜ r ≡ spec.onward (nextHop n a (packet.target p)) (packet.fewer p) ⌝ }
 {
     let to = target(p);
     let next = next_hop(n, a, to);
-    onward(next, p)
+    let moved = fewer(p);
+    onward(next, moved)
 }
 
 // Whether the packet has come to where it goes.

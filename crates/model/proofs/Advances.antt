@@ -66,7 +66,7 @@ module _ (net : Network) (t : Part) (n : ℕ) where
     wrote h p = record { counted = h; written = λ o. p; added = tt }
 
     -- whatever the look-up says; with no next node there is no item to place
-    moved-on : (next : NextHop) (p : Packet) → n + 1 ≤ ceiling → Place (Wire (nextNode next) (fewer p)) → After (onward next p)
+    moved-on : (next : NextHop) (p : Packet) → n + 1 ≤ ceiling → Place (Wire (nextNode next) p) → After (onward next p)
     moved-on (Exact next) p few w = record { counted = few; written = λ o. w; added = tt }
     moved-on (Default next) p few w = record { counted = few; written = λ o. w; added = tt }
     moved-on Missing p few w = loses few
@@ -76,7 +76,7 @@ module _ (net : Network) (t : Part) (n : ℕ) where
         → ((k : ℕ) (i : Item) → Trip x z y k i → k < j → Place i) → After (received z x y) → After f
     on-trip h (gone l) g r = loses h
     on-trip h (further k i w m) g r = wrote h (g k i w m)
-    on-trip h (hops next k z e) g r = moved-on next _ h (g (k - 1 + 2) _ (onWire (nextNode next) (k - 1)) (omega arith))
+    on-trip h (hops next k m) g r = moved-on next _ h (g (k + 2) _ (onWire (nextNode next) k) m)
     on-trip h comes g r = r
 
     -- the client discovers nothing
@@ -88,9 +88,9 @@ module _ (net : Network) (t : Part) (n : ℕ) where
 
     -- a Disc that nobody discovers at a, and that has hops left
     onward-disc : (a h : ℕ) → Discovering net c d b n a h → discovers (isGateway net a) d a (Disc (point b)) ≡ false → (h ≡ 0 → ⊥)
-        → After (onward (nextHop net a d) (bareWith c d (Disc (point b)) h))
+        → After (onward (nextHop net a d) (bareWith c d (Disc (point b)) (h - 1)))
     onward-disc a h w g z =
-        moved-on (nextHop net a d) (bareWith c d (Disc (point b)) h) (omega (arith, w .leaves, w .few))
+        moved-on (nextHop net a d) (bareWith c d (Disc (point b)) (h - 1)) (omega (arith, w .leaves, w .few))
         (discovering (nextNode (nextHop net a d)) (h - 1)
         (record {
           between = w .between;
@@ -129,7 +129,7 @@ module _ (net : Network) (t : Part) (n : ℕ) where
         (record { between = w .between; server = eqb-true (point b) d e; here = refl; least = omega (arith, w .number); most = omega arith })
         (omega (arith, w .few)))
         (λ e.
-        discovering (point b) hopLimit
+        discovering (point b) _
         (record {
           between = w .between;
           before = eqb-false (point b) d e;
@@ -217,13 +217,13 @@ module _ (net : Network) (t : Part) (n : ℕ) where
     advances i (doneOnWire m k h y o u w l) =
         let p = under (bareWith d c Done m) h in
         let few : n + 1 ≤ ceiling = omega arith in
-        let inner : fewer p .hops ≡ m = rw u in
+        let inner : fewer p .hops ≤ hopLimit = rw u (omega arith) in
         let outer : fewer p .header .hops ≡ h .hops - 1 = rw u in
         either After (eqb y (target p)) (λ e. wrote few (doneUp m k h y o u w (omega arith)))
         (λ e. either After (unprotected (isGateway net y) p) (λ o. loses few)
         (λ e. either After (eqb (hopsLeft p) 0) (λ z. loses few)
-        (λ z. moved-on (nextHop net y (target p)) p few
-        (doneOnWire (fewer p .hops) k (fewer p .header) _ (omega (arith, inner)) u w (omega (arith, outer, eqb-false (h .hops) 0 (rw u at z)))))))
+        (λ z. moved-on (nextHop net y (target p)) (fewer p) few
+        (doneOnWire (fewer p .hops) k (fewer p .header) _ inner u w (omega (arith, outer, eqb-false (h .hops) 0 (rw u at z)))))))
     advances i (doneUp m k h y o u w l) =
         let few : n + 1 ≤ ceiling = omega arith in
         let p = under (bareWith d c Done m) h in
@@ -233,7 +233,7 @@ module _ (net : Network) (t : Part) (n : ℕ) where
         either After (not admit) (λ e. loses few)
         (λ e. either After (not match) (λ g. loses few)
         (λ g. either After (not (eqb c y))
-        (λ f. done-through m x k y o w l (both (areNodes y x) (admits (held t) y x) (rw u at (not-false admit e)) .0) (eqb-true _ x (rw u at (not-false match g)))
+        (λ f. done-through _ x k y (omega arith) w l (both (areNodes y x) (admits (held t) y x) (rw u at (not-false admit e)) .0) (eqb-true _ x (rw u at (not-false match g)))
         (eqb-false c y (not-true (eqb c y) f)))
         (λ f. record { counted = few; written = tt; added = tt })))
     advances i (doneBare v l m) =

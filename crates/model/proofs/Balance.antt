@@ -25,7 +25,7 @@ use Rattle.calculus.specs.declared.session.Row.{Row}
 use Rattle.calculus.specs.declared.session.Session.{Session}
 use Rattle.calculus.specs.declared.state.Part.{Part}
 use Rattle.model.specs.Network.{isGateway, nextHop, hasAllNeeded}
-use Rattle.model.specs.Packet.{target, hopsLeft, isData}
+use Rattle.model.specs.Packet.{target, hopsLeft, fewer, isData}
 use Rattle.model.specs.Row.{held}
 use Rattle.model.specs.Rules.{writesFor, discovers, isExhausted, unprotected, onward, wireRule, outRule, admitted, matched, received, upRule, estRule, authRule, grantRule, ackRule, rule}
 use Rattle.model.specs.State.{writtenCount, stageAfter, begunAfter, addedRows}
@@ -52,7 +52,7 @@ pub record Law (s : Session) (i : Item) (f : Effect) : Type 0 where
   pub adds : length (addedRows (f .added)) ≤ 2 * active i
   pub begins : (s .begun ≤ begunAfter (s .begun) (f .begins)) × (begunAfter (s .begun) (f .begins) ≤ s .begun + active i)
 
-onward-law : (next : NextHop) (s : Session) (a : ℕ) (p : Packet) → Law s (Wire a p) (onward next p)
+onward-law : (next : NextHop) (s : Session) (a : ℕ) (p : Packet) → Law s (Wire a p) (onward next (fewer p))
 unfolding uses space carries active due
 onward-law (Exact next) s a p = omega arith
 onward-law (Default next) s a p = omega arith

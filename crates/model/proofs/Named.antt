@@ -98,12 +98,12 @@ fewer-named p o =
     let few : (n m : ℕ) → n ≤ hopLimit → m ≤ hopLimit → cond (isBare (p .header)) n m ≤ hopLimit =
     λ n m h k. either (λ (x : ℕ). x ≤ hopLimit) (isBare (p .header)) (λ e. h) (λ e. k) in
     let h = o .2 in
-    (o .0, o .1, (few _ _ (omega (arith, h .0)) (h .0), few _ _ (h .1) (omega (arith, h .1))))
+    (o .0, o .1, (few _ _ (omega (arith, h)) (omega (arith, h)), few _ _ (omega (arith, h)) (omega (arith, h))))
 
 onward-named : (n : Network) (v : ℕ) (next : NextHop) (a : ℕ) (p : Packet) → LeadsToGiven n next → Named v (Wire a p)
     → EffectNamed v (onward next p)
-onward-named n v (Exact next) a p k o = ((given-node n next k, fewer-named p (o .1), o .2), tt)
-onward-named n v (Default next) a p k o = ((given-node n next k, fewer-named p (o .1), o .2), tt)
+onward-named n v (Exact next) a p k o = ((given-node n next k, o .1, o .2), tt)
+onward-named n v (Default next) a p k o = ((given-node n next k, o .1, o .2), tt)
 onward-named n v Missing a p k o = (tt, tt)
 
 wire-named : (n : Network) (s : Session) (a : ℕ) (p : Packet) → LeadsToGiven n (nextHop n a (target p)) → Named (s .server) (Wire a p)
@@ -119,13 +119,13 @@ wire-named n s a p k o =
     (λ e. either P (eqb a (target p))
     (λ w. ((o .0, o .1, arrives v gateway a (p .payload) (p .destination) (p .header) e (o .2) (eqb-true a (target p) w)), tt))
     (λ e. either P (unprotected gateway p) (λ e. (tt, tt))
-    (λ e. either P (eqb (hopsLeft p) 0) (λ e. (tt, tt)) (λ e. onward-named n v (nextHop n a (target p)) a p k o))))
+    (λ e. either P (eqb (hopsLeft p) 0) (λ e. (tt, tt)) (λ e. onward-named n v (nextHop n a (target p)) a (fewer p) k (o .0, fewer-named p (o .1), o .2)))))
 
 header-few : (a : ℕ) (x : Peers) → headerTo a x .hops ≤ hopLimit
 header-few a x = either (λ (h : Header). h .hops ≤ hopLimit) (eqb (x .first) 0) (λ e. omega arith) (λ e. omega arith)
 
 sent-named : (v : ℕ) (rows : List Row) (a : ℕ) (p : Packet) → Node a → PacketNamed p → NoDisc (p .payload) → EffectNamed v (sent rows a p)
-sent-named v rows a p h k d = ((h, (k .0, k .1, (k .2 .0, header-few a (newest rows true a p))), λ e. never (sym d ∙ e)), tt)
+sent-named v rows a p h k d = ((h, (k .0, k .1, (omega (arith, k .2), header-few a (newest rows true a p))), λ e. never (sym d ∙ e)), tt)
 
 out-named : (v : ℕ) (rows : List Row) (a : ℕ) (p : Packet) → Named v (Out a p) → EffectNamed v (outRule rows a p)
 unfolding outRule
@@ -147,7 +147,7 @@ up-named v standing rows a p o =
     let P = EffectNamed v in
     either P (not (admitted standing rows a (p .header))) (λ e. (tt, tt))
     (λ e. either P (not (matched rows a p)) (λ e. (tt, tt))
-    (λ e. either P (not (eqb (p .destination) a)) (λ e. ((o .0, (o .1 .0, o .1 .1, (o .1 .2 .0, omega arith)), o .2, refl), tt))
+    (λ e. either P (not (eqb (p .destination) a)) (λ e. ((o .0, (o .1 .0, o .1 .1, (omega (arith, o .1 .2), omega arith)), o .2, refl), tt))
     (λ e. received-named v a (p .source) (p .payload) (o .0) (o .1 .0))))
 
 -- a new packet
@@ -163,7 +163,7 @@ ack-named : (s : Session) (a : ℕ) → Node (s .client) → Node (s .server) �
 unfolding ackRule
 ack-named s a c d h = (
   either (Named (s .server)) (eqb a (s .server)) (λ e. (h, bare-named (s .server) (s .client) Done d c, refl, refl))
-      (λ e. (h, bare-named (s .client) (s .server) (Disc a) c d, λ k. (h, eqb-false a (s .server) e, refl, refl))),
+      (λ e. (h, (c, d, (omega arith, omega arith)), λ k. (h, eqb-false a (s .server) e, refl, refl))),
   tt,
 )
 

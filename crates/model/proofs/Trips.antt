@@ -40,7 +40,7 @@ trip-some (arrived h) = omega arith
 pub data Travels (x z : ℕ) (y : Payload) (j : ℕ) : Effect → Type 0 where
   gone : (l : Loss) → Travels x z y j (lost l)
   further : (k : ℕ) (i : Item) → Trip x z y k i → k < j → Travels x z y j (writes i)
-  hops : (next : NextHop) (h : ℕ) → (h ≡ 0 → ⊥) → h + 2 ≡ j → Travels x z y j (onward next (bareWith x z y h))
+  hops : (next : NextHop) (h : ℕ) → h + 2 < j → Travels x z y j (onward next (bareWith x z y h))
   comes : Travels x z y j (received z x y)
 
 module _ (n : Network) (t : Part) (x z : ℕ) (y : Payload)
@@ -56,6 +56,6 @@ module _ (n : Network) (t : Part) (x z : ℕ) (y : Payload)
       either P (discovers (isGateway n a) (t .session .server) a y) (λ e. never (sym (quiet _ _ _) ∙ e))
       (λ e. either P (eqb a z) (λ k. subst (λ (b : ℕ). P (writes (Up b p))) (sym (eqb-true a z k)) (further 1 _ (arrived h) (omega arith)))
       (λ e. either P (unprotected (isGateway n a) p) (λ e. gone _)
-      (λ e. either P (eqb h 0) (λ e. gone _) (λ e. hops (nextHop n a z) h (eqb-false h 0 e) refl))))
+      (λ e. either P (eqb h 0) (λ e. gone _) (λ e. hops (nextHop n a z) _ (omega (arith, eqb-false h 0 e))))))
   travels none (arrived h) =
       either (Travels x z y 1) (not (matched (held t) z (bareWith x z y h))) (λ e. gone _) (λ e. rw (eq-eqb z z refl) comes)

@@ -252,7 +252,7 @@ fewerBare =
       };
     }
 
--- data on the circle before it is sent out again for the 33rd time
+-- on the circle, before data is sent out again for the 33rd time; the Disc that the third ack wrote is a new packet
 abbrev pub noHopsLeft : Moment
 noHopsLeft =
     record {
@@ -260,7 +260,7 @@ noHopsLeft =
       sees = record {
         stage = Stage.SettingUp;
         ends = some (1, 4);
-        items = item 44 (Dwait 2) ∷ item 188 (Out 2 (packet 1 4 (Data 77) 0 noHeader)) ∷ item 60 (Ack 2 3) ∷ [];
+        items = item 60 (Wire 2 (packet 1 4 (Disc 2) 32 noHeader)) ∷ item 188 (Out 2 (packet 1 4 (Data 77) 0 noHeader)) ∷ [];
         rows = row 1 true 1 4 2 1 ∷ row 1 false 4 1 2 1 ∷ row 2 true 4 1 1 1 ∷ row 2 false 1 4 1 1
             ∷ row 2 true 1 4 3 2 ∷ row 2 false 4 1 3 2 ∷ row 3 true 4 1 2 2 ∷ row 3 false 1 4 2 2
             ∷ row 3 true 1 4 2 3 ∷ row 3 false 4 1 2 3 ∷ row 2 true 4 1 3 3 ∷ row 2 false 1 4 3 3

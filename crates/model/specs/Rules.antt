@@ -91,8 +91,8 @@ unprotected gateway p = gateway && (isBare (p .header) && isDataOrDone (p .paylo
 
 -- the last two cases, by what the look-up says: "Lost 3 is left for neither"
 abbrev pub onward : NextHop → Packet → Effect
-onward (Exact next) p = writes (Wire next (fewer p))
-onward (Default next) p = only (WroteByDefault (Wire next (fewer p)))
+onward (Exact next) p = writes (Wire next p)
+onward (Default next) p = only (WroteByDefault (Wire next p))
 onward Missing p = lost NoRoute
 
 -- wire(a, packet, h), where h is the count in use and `look` gives a's next hop for a node: "the first that fits". No list of calls tells
@@ -105,7 +105,7 @@ wireRule gateway look s a p =
     (cond (eqb a (target p)) (writes (Up a p))
     (cond (unprotected gateway p) (lost Unprotected)
     (cond (eqb (hopsLeft p) 0) (lost HopLimit)
-    (onward (look (target p)) p))))
+    (onward (look (target p)) (fewer p)))))
 
 -- ---- out
 

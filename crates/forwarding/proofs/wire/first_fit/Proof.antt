@@ -59,13 +59,12 @@ returns-5 c =
 returns-6 : tie.Need-returns-6
 unfolding wireRule
 returns-6 c =
-    simp (
-      c .routed .ensures,
-      join (c .before .before .no-hops-left .ensures) (c .before .if5 .left),
-      join (c .before .before .before .before .unprotected .ensures) (c .before .before .before .if4 .left),
-      join (c .before .before .before .before .before .before .arrived .ensures) (c .before .before .before .before .before .if3 .left),
+    rw (
       join (c .before .before .before .before .before .before .before .before .discovers .ensures) (c .before .before .before .before .before .before .before .if1 .left),
-    )
+      join (c .before .before .before .before .before .before .arrived .ensures) (c .before .before .before .before .before .if3 .left),
+      join (c .before .before .before .before .unprotected .ensures) (c .before .before .before .if4 .left),
+      join (c .before .before .no-hops-left .ensures) (c .before .if5 .left),
+    ) (c .routed .ensures)
 
 pub first-fit-spec : {M : Type 1} → statement M
 first-fit-spec =
