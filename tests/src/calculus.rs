@@ -3,10 +3,11 @@
 use crate::network::{LookUp, Network};
 use std::collections::BTreeMap;
 
+/// The hops that a packet starts with, and that a header brings.
 const HOPS: u64 = 32;
 const MOST_ESTABLISHMENTS: u64 = 8;
 
-/// The most steps that a packet takes on the wire: one at each count of hops left, from all to none.
+/// The most steps that a packet takes on the wire by one count: one at each number of hops left, from all to none.
 const WIRE_STEPS: u64 = HOPS + 1;
 /// The most that it takes from one end of a tunnel to the other, or bare: out, on the wire, up.
 const WAY_STEPS: u64 = 1 + WIRE_STEPS + 1;
@@ -33,6 +34,8 @@ pub struct Header {
     pub from: u64,
     pub to: u64,
     pub spi: u64,
+    /// the outer count of hops left, in use while the header is on
+    pub hops: u64,
 }
 
 #[derive(Clone, Copy, Debug, PartialEq)]
@@ -40,12 +43,30 @@ pub struct Packet {
     pub source: u64,
     pub destination: u64,
     pub payload: Payload,
+    /// the inner count of hops left, which a header leaves as it is
+    pub hops: u64,
     pub header: Option<Header>,
 }
 
 impl Packet {
+    /// A new packet, with all its hops.
     pub fn bare(source: u64, destination: u64, payload: Payload) -> Self {
-        Packet { source, destination, payload, header: None }
+        Packet { source, destination, payload, hops: HOPS, header: None }
+    }
+
+    /// The count in use (#108): the header's while it is on, else the inner one.
+    fn count_in_use(&mut self) -> &mut u64 {
+        match &mut self.header {
+            Some(header) => &mut header.hops,
+            None => &mut self.hops,
+        }
+    }
+
+    /// The packet with one taken from the count in use, or none if that is already 0, which is lost 2.
+    fn one_hop_on(mut self) -> Option<Self> {
+        let count = self.count_in_use();
+        *count = count.checked_sub(1)?;
+        Some(self)
     }
 }
 
@@ -57,7 +78,7 @@ pub enum Side {
 
 #[derive(Clone, Copy, Debug, PartialEq)]
 pub enum Item {
-    Wire { at: u64, packet: Packet, hops: u64 },
+    Wire { at: u64, packet: Packet },
     Out { at: u64, packet: Packet },
     Up { at: u64, packet: Packet },
     Est { at: u64, peer: u64, establishment: u64 },
@@ -149,9 +170,9 @@ impl Session {
         Session { client, server, items: BTreeMap::new(), rows: Vec::new(), begun: 0 }
     }
 
-    /// What an open writes.
+    /// What an open writes, and an ack at a gateway: each time a new packet.
     pub fn discovery(&self, at: u64) -> Item {
-        Item::Wire { at, packet: Packet::bare(self.client, self.server, Payload::Disc(at)), hops: HOPS }
+        Item::Wire { at, packet: Packet::bare(self.client, self.server, Payload::Disc(at)) }
     }
 
     /// What a send writes: side 0 is the client's.
@@ -163,7 +184,7 @@ impl Session {
     /// Applies the item's rule; the item itself is already taken off.
     pub fn apply(&mut self, item: Item, network: &Network) -> Outcome {
         match item {
-            Item::Wire { at, packet, hops } => self.wire(at, packet, hops, network),
+            Item::Wire { at, packet } => self.wire(at, packet, network),
             Item::Out { at, packet } => self.out(at, packet),
             Item::Up { at, packet } => self.up(at, packet),
             Item::Est { at, peer, establishment } => Outcome::Made(vec![
@@ -180,7 +201,7 @@ impl Session {
         }
     }
 
-    fn wire(&mut self, at: u64, packet: Packet, hops: u64, network: &Network) -> Outcome {
+    fn wire(&mut self, at: u64, packet: Packet, network: &Network) -> Outcome {
         let to = packet.header.map_or(packet.destination, |header| header.to);
         let gateway = network.is_gateway(at);
         if let Payload::Disc(point) = packet.payload {
@@ -194,10 +215,10 @@ impl Session {
         if gateway && packet.header.is_none() && matches!(packet.payload, Payload::Data(_) | Payload::Done) {
             return Outcome::Lost(1);
         }
-        if hops == 0 {
+        let Some(packet) = packet.one_hop_on() else {
             return Outcome::Lost(2);
-        }
-        let moved = |next: u64| Item::Wire { at: next, packet, hops: hops - 1 };
+        };
+        let moved = |next: u64| Item::Wire { at: next, packet };
         match network.look_up(at, to) {
             LookUp::Exact(next) => made(moved(next)),
             LookUp::Default(next) => Outcome::MadeByDefault(moved(next)),
@@ -213,17 +234,25 @@ impl Session {
         Outcome::Made(vec![Item::Dwait { at }, Item::Est { at, peer, establishment: self.begun }])
     }
 
+    /// A node that didn't create the packet sends it out again: this takes one from the inner count before any row is
+    /// read, so also where the packet then goes bare (#108). What comes here is bare, so the inner count is the one in
+    /// use, and it is no Disc, so its source created it.
     fn out(&self, at: u64, packet: Packet) -> Outcome {
+        let sent = if at == packet.source { Some(packet) } else { packet.one_hop_on() };
+        let Some(packet) = sent else {
+            return Outcome::Lost(2);
+        };
         let header = self.newest_match(at, Direction::Out, &packet).map(|row| Header {
             from: at,
             to: row.association.peer,
             spi: row.association.spi(),
+            hops: HOPS,
         });
-        made(Item::Wire { at, packet: Packet { header, ..packet }, hops: HOPS })
+        made(Item::Wire { at, packet: Packet { header, ..packet } })
     }
 
     /// Lost 4 is tested before lost 5 (#107). A row of this session is itself a user of its association, so the
-    /// association of such a row stands.
+    /// association of such a row stands. The outer count goes with the header, and the inner one goes on (#108).
     fn up(&mut self, at: u64, packet: Packet) -> Outcome {
         let Some(header) = packet.header else {
             return self.receive(at, packet, None);
