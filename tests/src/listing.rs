@@ -1,6 +1,8 @@
 //! Listings written by hand: calls, each with its answer.
 
 use crate::network::route_form;
+use crate::topology::routes_along;
+use std::collections::BTreeMap;
 use std::ops::RangeInclusive;
 
 /// The lines of an answer have newlines between.
@@ -32,6 +34,43 @@ pub fn chain(last: u64) -> Listing {
         route_form(at, destination, next)
     });
     accepted(nodes.chain(routes))
+}
+
+/// Gateways from 2 on, between host 1 and the server, with so many hosts on the way from each to the next. What is for the server
+/// goes round the gateways, and never gets there.
+pub fn circle(gateways: u64, hosts: u64) -> Listing {
+    let (last, server) = (gateways + 1, gateways + 2);
+    let nodes = [host(1)].into_iter().chain((2..=last).map(gate)).chain((server..=server + last * hosts).map(host));
+    let given = (1..=last).flat_map(|at| {
+        let next = if at < last { at + 1 } else { 2 };
+        let between = server + (at - 1) * hosts + 1..=server + at * hosts;
+        let way: Vec<u64> = [at].into_iter().chain(between).chain([next]).collect();
+        let back: Vec<u64> = way.iter().rev().copied().collect();
+        [routes_along(&way, next), routes_along(&back, at), routes_along(&way, server)].concat()
+    });
+    // two gateways have two ways between them: their tunnels go by the first
+    let mut routes = BTreeMap::new();
+    for (at, destination, next) in given {
+        routes.entry((at, destination)).or_insert(next);
+    }
+    accepted(nodes.chain(routes.into_iter().map(|((at, destination), next)| route_form(at, destination, next))))
+}
+
+/// An open of a session that never wrote an item.
+pub fn open(session: u64, client: u64, server: u64) -> Listing {
+    exchanges(&[(&format!("(open {session} {client} {server})"), "(made 1)")])
+}
+
+/// Session 1 on this network, from 1 to the server, with its first establishments between neighbours.
+pub fn begun(network: Listing, server: u64, establishments: u64) -> Listing {
+    let set_up = (1..=establishments).flat_map(|nth| establishment(1, nth, 18)).collect();
+    [network, open(1, 1, server), set_up].concat()
+}
+
+/// Data of session 1 whose tag is its number, sent from a side. It comes up at the neighbour as the third number behind it.
+pub fn data(side: u64, number: u64) -> Listing {
+    let send = exchanges(&[(&format!("(send 1 {side} {number})"), &format!("(made {number})"))]);
+    [send, moves(1, number..=number + 2)].concat()
 }
 
 /// Steps of one session.

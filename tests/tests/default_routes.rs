@@ -2,7 +2,7 @@
 //! choose other lists.
 
 use simulator_tests::compare::{check, difference, is_network, made};
-use simulator_tests::listing::{accepted, default_moves, exchanges, gate, host, moves, steps, Listing};
+use simulator_tests::listing::{accepted, default_moves, exchanges, gate, host, moves, open, steps, Listing};
 use simulator_tests::lists::{input, list, LateNetwork};
 use simulator_tests::network::{route_form, LookUp, Network};
 use simulator_tests::program;
@@ -14,10 +14,6 @@ use std::collections::BTreeSet;
 /// Hosts 1 to 4, and these routes.
 fn four_hosts(routes: &[&str]) -> Listing {
     [accepted((1..=4).map(host)), accepted(routes.iter().copied())].concat()
-}
-
-fn open(session: u64, client: u64, server: u64) -> Listing {
-    exchanges(&[(&format!("(open {session} {client} {server})"), "(made 1)")])
 }
 
 /// Node 1 has a default by 2, an exact route for 4 by 3, and one for 3 by 2, as its default. Only the packet for 2 goes by

@@ -3,37 +3,12 @@
 
 use simulator_tests::arrivals::{met, STEPS};
 use simulator_tests::compare::{check, difference_from_list};
-use simulator_tests::listing::{accepted, chain, establishment, exchanges, gate, host, moves, steps, Listing};
+use simulator_tests::listing::{begun, chain, circle, data, establishment, moves, steps};
 use simulator_tests::lists::{list, LateNetwork};
-use simulator_tests::network::route_form;
 use simulator_tests::program;
 use simulator_tests::random::{check_met, for_each_index, setting};
-use std::collections::BTreeSet;
 
 const CALLS: usize = 400;
-
-/// Session 1 on this network, from 1 to the server, with its first establishments.
-fn begun(network: Listing, server: u64, establishments: u64) -> Listing {
-    let open = exchanges(&[(&format!("(open 1 1 {server})"), "(made 1)")]);
-    let set_up = (1..=establishments).flat_map(|nth| establishment(1, nth, 18)).collect();
-    [network, open, set_up].concat()
-}
-
-/// Data whose tag is its number, sent from a side. It comes up at the neighbour as the third number behind it.
-fn data(side: u64, number: u64) -> Listing {
-    let send = exchanges(&[(&format!("(send 1 {side} {number})"), &format!("(made {number})"))]);
-    [send, moves(1, number..=number + 2)].concat()
-}
-
-/// Gateways from 2 on, between host 1 and the server. What is for the server goes round them, and never gets there.
-fn circle(gateways: u64) -> Listing {
-    let (last, server) = (gateways + 1, gateways + 2);
-    let nodes = [host(1)].into_iter().chain((2..=last).map(gate)).chain([host(server)]);
-    let next = |at: u64| if at < last { at + 1 } else { 2 };
-    let routes = (1..=last).flat_map(|at| [(at, next(at), next(at)), (next(at), at, at), (at, server, next(at))]);
-    let routes: BTreeSet<_> = routes.collect();
-    accepted(nodes.chain(routes.into_iter().map(|(at, destination, next)| route_form(at, destination, next))))
-}
 
 /// Items 15 and 19 are bare Data at up, from before any row. The first is received before the grant at its node, by the one step;
 /// behind the grant the other no longer matches.
@@ -68,7 +43,7 @@ fn header_stripped_before_it_is_sent_out_again() {
 /// one is sent out again, by the one step; behind it the newest row has peer 3.
 #[test]
 fn newer_row_of_another_peer() {
-    let before = [begun(circle(2), 4, 2), establishment(1, 3, 16), data(0, 54), data(0, 58)].concat();
+    let before = [begun(circle(2, 0), 4, 2), establishment(1, 3, 16), data(0, 54), data(0, 58)].concat();
     let behind = steps(1, &[(57, "(made 62)"), (53, "(made 63)"), (61, "(lost 5)"), (61, "(no 11)")]);
     check(&[before, behind, moves(1, 63..=63)].concat());
 }
@@ -77,7 +52,7 @@ fn newer_row_of_another_peer() {
 /// and admits the header; the row that matches has peer 1.
 #[test]
 fn header_admitted_by_a_row_of_the_other_filter() {
-    let before = [begun(circle(2), 4, 2), establishment(1, 3, 16), data(0, 54)].concat();
+    let before = [begun(circle(2, 0), 4, 2), establishment(1, 3, 16), data(0, 54)].concat();
     check(&[before, moves(1, 57..=64), steps(1, &[(65, "(lost 5)")])].concat());
 }
 
@@ -85,7 +60,7 @@ fn header_admitted_by_a_row_of_the_other_filter() {
 /// row that matches has peer 1, but lost 4 is tested before lost 5.
 #[test]
 fn lost_4_beside_a_row_that_matches() {
-    let before = [begun(circle(3), 5, 3), establishment(1, 4, 11), data(0, 67)].concat();
+    let before = [begun(circle(3, 0), 5, 3), establishment(1, 4, 11), data(0, 67)].concat();
     check(&[before, moves(1, 70..=81), steps(1, &[(82, "(lost 4)")])].concat());
 }
 
