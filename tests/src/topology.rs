@@ -1,5 +1,6 @@
 //! Random networks, as the node and route calls that give them.
 
+use crate::form::NODES;
 use crate::network::{route_form, Node, DEFAULT};
 use crate::random::Random;
 use std::collections::{BTreeMap, BTreeSet};
@@ -119,6 +120,22 @@ fn detour(random: &mut Random, nodes: &[u64], destination: u64, fault: u64) -> V
 /// The routes to the destination from each node of the path to the next one.
 pub fn routes_along(path: &[u64], destination: u64) -> Vec<Route> {
     path.windows(2).map(|pair| (pair[0], destination, pair[1])).collect()
+}
+
+/// The routes of a way to the destination through all the other nodes, these first.
+pub fn longest_way(first: &[u64], destination: u64) -> Vec<Route> {
+    let others = NODES.filter(|node| !first.contains(node) && *node != destination);
+    let path: Vec<u64> = first.iter().copied().chain(others).chain([destination]).collect();
+    routes_along(&path, destination)
+}
+
+/// Client 1, gateways 2 to 8, server 9; hosts 10 to 32 lie between the last gateway and the server. The way to each tunnel point goes
+/// through all the nodes: 31 hops from the one behind it, and 30 from the one before it, but 24 to the server.
+pub fn longest_chain() -> Vec<Route> {
+    let to_client = longest_way(&[2], 1);
+    let to_gateways = (2..=8).flat_map(|gateway| longest_way(&[gateway + 1, gateway - 1], gateway));
+    let to_server = longest_way(&[1, 2, 3, 4, 5, 6, 7, 8], 9);
+    to_client.into_iter().chain(to_gateways).chain(to_server).collect()
 }
 
 pub fn forms(routes: &[Route]) -> Vec<String> {

@@ -10,7 +10,7 @@ use simulator_tests::network::Node;
 use simulator_tests::program;
 use simulator_tests::random::{check_met, for_each_index, setting, Random};
 use simulator_tests::simulator::Simulator;
-use simulator_tests::topology::{forms, routes_along, with_uplinks, Route};
+use simulator_tests::topology::{forms, longest_chain, longest_way, routes_along, with_uplinks, Route};
 use std::collections::{BTreeMap, BTreeSet};
 
 /// What the random set-ups have to meet: each end that a set-up has, with whose packet is lost or who denies; what comes between
@@ -257,28 +257,16 @@ fn check_longest_by(gateways: &[u64], ends: (u64, u64), routes: &[Route], steps:
     assert!(met.contains(last), "{last} is not met");
 }
 
-/// The routes of a way to the destination through all the other nodes, these first.
-fn longest_way(first: &[u64], destination: u64) -> Vec<Route> {
-    let others = NODES.filter(|node| !first.contains(node) && *node != destination);
-    let path: Vec<u64> = first.iter().copied().chain(others).chain([destination]).collect();
-    routes_along(&path, destination)
-}
-
 #[test]
 fn ceiling_is_the_documents() {
     assert_eq!(CEILING, 8 * 109 + 8 * 35);
     assert_eq!(CEILING, 1152);
 }
 
-/// Client 1, gateways 2 to 8, server 9; hosts 10 to 32 lie between the last gateway and the server.
 #[test]
 fn longest_set_up() {
-    let to_client = longest_way(&[2], 1);
-    let to_gateways = (2..=8).flat_map(|gateway| longest_way(&[gateway + 1, gateway - 1], gateway));
-    let to_server = longest_way(&[1, 2, 3, 4, 5, 6, 7, 8], 9);
-    let routes = to_client.into_iter().chain(to_gateways).chain(to_server).collect();
     assert_eq!(LONGEST, 889);
-    check_longest(&[2, 3, 4, 5, 6, 7, 8], (1, 9), routes, LONGEST, "Done (opened)");
+    check_longest(&[2, 3, 4, 5, 6, 7, 8], (1, 9), longest_chain(), LONGEST, "Done (opened)");
 }
 
 /// Client 1, gateways 30 and 31, server 32; the routes for the server go from 1 to 31 and back to 1.
