@@ -4,7 +4,7 @@ use crate::network::{LookUp, Network};
 use std::collections::BTreeMap;
 
 /// The hops that a packet starts with, and that a header brings.
-const HOPS: u64 = 32;
+pub const HOPS: u64 = 32;
 const MOST_ESTABLISHMENTS: u64 = 8;
 
 /// The most steps that a packet takes on the wire by one count: one at each number of hops left, from all to none.

@@ -7,6 +7,7 @@ pub mod compare;
 pub mod damage;
 pub mod defaults;
 pub mod form;
+pub mod hops;
 pub mod join;
 pub mod lines;
 pub mod listing;

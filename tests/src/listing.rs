@@ -1,7 +1,6 @@
 //! Listings written by hand: calls, each with its answer.
 
-use crate::network::route_form;
-use crate::topology::routes_along;
+use crate::topology::{forms, line_routes, routes_along, Route};
 use std::collections::BTreeMap;
 use std::ops::RangeInclusive;
 
@@ -28,12 +27,8 @@ pub fn gate(node: u64) -> String {
 /// Nodes 1 to `last` in a row, hosts at both ends and gateways between, with every route.
 pub fn chain(last: u64) -> Listing {
     let nodes = (1..=last).map(|node| if node == 1 || node == last { host(node) } else { gate(node) });
-    let pairs = (1..=last).flat_map(|at| (1..=last).map(move |destination| (at, destination)));
-    let routes = pairs.filter(|(at, destination)| at != destination).map(|(at, destination)| {
-        let next = if destination > at { at + 1 } else { at - 1 };
-        route_form(at, destination, next)
-    });
-    accepted(nodes.chain(routes))
+    let routes = line_routes(&(1..=last).collect::<Vec<_>>());
+    accepted(nodes.chain(forms(&routes)))
 }
 
 /// Gateways from 2 on, between host 1 and the server, with so many hosts on the way from each to the next. What is for the server
@@ -53,7 +48,8 @@ pub fn circle(gateways: u64, hosts: u64) -> Listing {
     for (at, destination, next) in given {
         routes.entry((at, destination)).or_insert(next);
     }
-    accepted(nodes.chain(routes.into_iter().map(|((at, destination), next)| route_form(at, destination, next))))
+    let routes: Vec<Route> = routes.into_iter().map(|((at, destination), next)| (at, destination, next)).collect();
+    accepted(nodes.chain(forms(&routes)))
 }
 
 /// An open of a session that never wrote an item.

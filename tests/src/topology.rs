@@ -84,6 +84,30 @@ impl Topology {
         Self::of(nodes, &gateways, calls)
     }
 
+    /// A line of hosts and up to seven gateways, between hosts. For a further host the routes go along it and, behind the gateways,
+    /// back: into a circle of all of the gateways, or of those behind the first ones.
+    pub fn circle(random: &mut Random) -> Self {
+        let in_circle = random.pick(&[0, 1, 2, 2, 3, 3, 4, 5, 6, 7]);
+        let before = if in_circle == 0 { 0 } else { random.pick(&[0, 0, 0, 1, 2]).min(7 - in_circle) };
+        let hosts = random.pick(&[0, 0, 1, 3, 8, 20]);
+        let mut inner: Vec<bool> = (0..before + in_circle + hosts).map(|place| place < before + in_circle).collect();
+        random.shuffle(&mut inner);
+        let gateways = [vec![false], inner, vec![false; 2]].concat();
+        let nodes = some_nodes(random, gateways.len());
+        let mut calls = node_calls(random, &nodes, &gateways);
+        let (server, line) = nodes.split_last().expect("there are hosts");
+        let mut routes = line_routes(line);
+        if random.one_in(5) {
+            turn_back(random, line, &mut routes);
+        }
+        routes.extend(routes_along(&into_a_circle(random, line, &gateways, before), *server));
+        if random.one_in(3) {
+            routes = with_uplinks(random, routes);
+        }
+        calls.extend(forms(&routes));
+        Self::of(nodes, &gateways, calls)
+    }
+
     fn of(nodes: Vec<u64>, gateways: &[bool], calls: Vec<String>) -> Self {
         let size = nodes.len();
         let hosts = (0..size).filter(|&place| !gateways[place]).map(|place| nodes[place]).collect();
@@ -120,6 +144,41 @@ fn detour(random: &mut Random, nodes: &[u64], destination: u64, fault: u64) -> V
 /// The routes to the destination from each node of the path to the next one.
 pub fn routes_along(path: &[u64], destination: u64) -> Vec<Route> {
     path.windows(2).map(|pair| (pair[0], destination, pair[1])).collect()
+}
+
+/// All routes between the nodes of a line.
+pub fn line_routes(line: &[u64]) -> Vec<Route> {
+    let to = |(place, &destination): (usize, &u64)| {
+        let beyond: Vec<u64> = line[place..].iter().rev().copied().collect();
+        [routes_along(&line[..=place], destination), routes_along(&beyond, destination)].concat()
+    };
+    line.iter().enumerate().flat_map(to).collect()
+}
+
+/// For one destination of the line, two nodes next to each other send back to each other, one of them mostly its neighbour.
+fn turn_back(random: &mut Random, line: &[u64], routes: &mut [Route]) {
+    let place = random.index(line.len());
+    let first = if place < 2 { place + 1 } else { place - 2 };
+    let Some(&[one, other]) = line.get(first..first + 2) else { return };
+    for (at, destination, next) in routes {
+        match *at {
+            _ if *destination != line[place] => {}
+            at if at == one => *next = other,
+            at if at == other => *next = one,
+            _ => {}
+        }
+    }
+}
+
+/// A path from the first node of the line that goes past all gateways, and back behind so many of them.
+fn into_a_circle(random: &mut Random, line: &[u64], gateways: &[bool], before: usize) -> Vec<u64> {
+    let places: Vec<usize> = (0..line.len()).filter(|&place| gateways[place]).collect();
+    let lowest = if before == 0 { 0 } else { places[before - 1] + 1 };
+    let highest = places.get(before).copied().unwrap_or(line.len() - 2);
+    let back = lowest + random.index(highest - lowest + 1);
+    let least = places.last().map_or(back + 1, |&last| last.max(back + 1));
+    let turn = least + random.index(line.len() - least);
+    [&line[..=turn], &[line[back]]].concat()
 }
 
 /// The routes of a way to the destination through all the other nodes, these first.

@@ -3,8 +3,12 @@
 //! lists.
 
 use simulator_tests::calculus::{Item, Side};
-use simulator_tests::compare::{check, made};
+use simulator_tests::compare::{check, difference_from_list, made};
+use simulator_tests::hops::{kinds, met};
 use simulator_tests::listing::{begun, circle, data, establishment, moves, show, steps};
+use simulator_tests::lists::{rounds, LateNetwork};
+use simulator_tests::program;
+use simulator_tests::random::{check_met, for_each_index, setting};
 use simulator_tests::recorder::Recorder;
 
 /// The gateway where the client's tunnel ends and the circle begins.
@@ -190,4 +194,19 @@ fn sessions_share_no_count() {
     let anew = circle.open_and_enter(2);
     circle.lose(vec![first, anew, third]);
     circle.end();
+}
+
+#[test]
+fn random_lists_meet_every_count() {
+    let (seed, count) = (setting("SEED", 19), setting("COUNT", 300));
+    let met = for_each_index(count, |index| {
+        let list = rounds(seed, index, LateNetwork::Yes);
+        let output = program::run(&list.input());
+        assert_eq!(difference_from_list(&list, &output), None, "SEED={seed}, list {index}");
+        met(&list.calls)
+    });
+    let (met, kinds): (Vec<String>, String) = (met.into_iter().flatten().collect(), kinds());
+    let others: Vec<_> = met.iter().filter(|&kind| !kinds.split('|').any(|known| known == kind)).collect();
+    assert!(others.is_empty(), "what there is not: {others:?}");
+    check_met(met, &kinds, count >= 300);
 }
