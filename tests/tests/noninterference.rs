@@ -4,43 +4,65 @@
 use simulator_tests::compare::{is_network, made};
 use simulator_tests::defaults;
 use simulator_tests::form::Form;
-use simulator_tests::lists::{input, list, LateNetwork, List};
+use simulator_tests::hops;
+use simulator_tests::lists::{input, list, rounds, LateNetwork, List};
 use simulator_tests::program;
 use simulator_tests::random::{check_met, for_each_index, setting};
 use std::collections::BTreeSet;
 
 const CALLS: usize = 500;
 
+/// What lists meet where sessions share them.
+type Met = fn(&[Vec<u8>]) -> BTreeSet<String>;
+
 #[test]
 fn a_session_is_answered_as_if_alone() {
-    let (seed, count) = (setting("SEED", 3), setting("COUNT", 300));
-    let (shared, met): (Vec<usize>, Vec<_>) = for_each_index(count, |index| compare(seed, index)).into_iter().unzip();
-    let compared: usize = shared.iter().sum();
-    // of a few lists, all may have one session
-    assert!(count < 100 || compared as u64 > 50 * count, "few calls of sessions that share a list: {compared}");
-    check_met(met.into_iter().flatten(), defaults::STEPS, count >= 300);
+    let seed = setting("SEED", 3);
+    check(seed, 300, |index| list(seed, index, CALLS, LateNetwork::No), (defaults::met, defaults::STEPS));
 }
 
-/// Compares each session of one list; gives how many calls were of sessions that shared it with others, and what they met of
-/// defaults.
-fn compare(seed: u64, index: u64) -> (usize, BTreeSet<String>) {
-    let list = list(seed, index, CALLS, LateNetwork::No);
+/// In a circle of gateways each session's Data has its own count of hops.
+#[test]
+fn a_session_in_a_circle_is_answered_as_if_alone() {
+    let seed = setting("SEED", 20);
+    check(seed, 200, |index| rounds(seed, index, LateNetwork::No), (hops::met, &hops::kinds()));
+}
+
+/// Compares each session of so many lists, or of COUNT. The lists that sessions share have to meet all of the kinds.
+fn check(seed: u64, default: u64, list: impl Fn(u64) -> List + Sync, (met, kinds): (Met, &str)) {
+    let count = setting("COUNT", default);
+    let compared = for_each_index(count, |index| {
+        let list = list(index);
+        match compare(&list, &format!("SEED={seed}, list {index}")) {
+            0 => Default::default(),
+            shared => (shared, met(&list.calls)),
+        }
+    });
+    let (shared, met): (Vec<usize>, Vec<_>) = compared.into_iter().unzip();
+    let shared: usize = shared.iter().sum();
+    // of a few lists, all may have one session
+    assert!(count < 100 || shared as u64 > 50 * count, "few calls of sessions that share a list: {shared}");
+    check_met(met.into_iter().flatten(), kinds, count >= default);
+}
+
+/// Compares each session of one list; gives how many calls were of sessions that shared it with others.
+fn compare(list: &List, place: &str) -> usize {
     let mixed = answers(&list.calls, &program::run(&list.input()));
-    let sessions: Vec<Vec<usize>> = (1..=8).map(|session| own(&list, session)).filter(|own| !own.is_empty()).collect();
+    let sessions: Vec<Vec<usize>> = (1..=8).map(|session| own(list, session)).filter(|own| !own.is_empty()).collect();
     for own in &sessions {
         let mut calls = list.calls[..list.network].to_vec();
         calls.extend(own.iter().map(|&call| list.calls[call].clone()));
         let alone = answers(&calls, &program::run(&input(&calls)));
         for (&call, answer) in own.iter().zip(&alone[list.network..]) {
             let text = String::from_utf8_lossy(&list.calls[call]);
-            assert_eq!(&mixed[call], answer, "seed {seed}, list {index}, call {call}: {text}");
+            assert_eq!(&mixed[call], answer, "{place}, call {call}: {text}");
         }
-        assert_numbers_in_order(own.iter().map(|&call| &mixed[call]), &format!("seed {seed}, list {index}"));
+        assert_numbers_in_order(own.iter().map(|&call| &mixed[call]), place);
     }
     if sessions.len() > 1 {
-        (sessions.concat().len(), defaults::met(&list.calls))
+        sessions.concat().len()
     } else {
-        Default::default()
+        0
     }
 }
 
