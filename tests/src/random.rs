@@ -71,3 +71,10 @@ pub fn check_met(met: impl IntoIterator<Item = String>, kinds: &str, enough: boo
     let missing: Vec<_> = kinds.split('|').filter(|&kind| !runs.contains_key(kind)).collect();
     assert!(!enough || missing.is_empty(), "never met: {missing:?}");
 }
+
+/// The same, and asserts that nothing but these kinds was met.
+pub fn check_met_alone(met: Vec<String>, kinds: &str, enough: bool) {
+    let others: Vec<_> = met.iter().filter(|&kind| !kinds.split('|').any(|known| known == kind)).collect();
+    assert!(others.is_empty(), "there should be none: {others:?}");
+    check_met(met, kinds, enough);
+}

@@ -84,8 +84,8 @@ impl Topology {
         Self::of(nodes, &gateways, calls)
     }
 
-    /// A line of hosts and up to seven gateways, between hosts. For a further host the routes go along it and, behind the gateways,
-    /// back: into a circle of all of the gateways, or of those behind the first ones.
+    /// A line of hosts and up to seven gateways, with hosts at both ends. The last node lies beyond it: the routes for that one go past
+    /// all the gateways and back, so that all but the first few are in a circle.
     pub fn circle(random: &mut Random) -> Self {
         let in_circle = random.pick(&[0, 1, 2, 2, 3, 3, 4, 5, 6, 7]);
         let before = if in_circle == 0 { 0 } else { random.pick(&[0, 0, 0, 1, 2]).min(7 - in_circle) };
@@ -155,7 +155,8 @@ pub fn line_routes(line: &[u64]) -> Vec<Route> {
     line.iter().enumerate().flat_map(to).collect()
 }
 
-/// For one destination of the line, two nodes next to each other send back to each other, one of them mostly its neighbour.
+/// For one destination of the line, two neighbours send to each other, mostly those before it: what is for it goes round between them,
+/// and so does what is in a tunnel to it.
 fn turn_back(random: &mut Random, line: &[u64], routes: &mut [Route]) {
     let place = random.index(line.len());
     let first = if place < 2 { place + 1 } else { place - 2 };

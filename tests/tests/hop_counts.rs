@@ -1,6 +1,10 @@
 //! The inner count of hops (#108), on both implementations. It shows in Data that goes round in tunnels: the 33rd out again is lost 2,
 //! however long the tunnels are, for their hops are the headers' to count. SEED and COUNT in the environment choose other random
 //! lists.
+//!
+//! Some of the rule no list of calls shows. Data with no hops left has been sent out before by every gateway of its circle, so a row
+//! matches at that out. Where Data is sent out again and goes bare, it is at a gateway and lost 1 by its next step. A Done goes
+//! through seven gateways at most.
 
 use simulator_tests::calculus::{Item, Side};
 use simulator_tests::compare::{check, difference_from_list, made};
@@ -8,7 +12,7 @@ use simulator_tests::hops::{kinds, met};
 use simulator_tests::listing::{begun, circle, data, establishment, moves, show, steps};
 use simulator_tests::lists::{rounds, LateNetwork};
 use simulator_tests::program;
-use simulator_tests::random::{check_met, for_each_index, setting};
+use simulator_tests::random::{check_met_alone, for_each_index, setting};
 use simulator_tests::recorder::Recorder;
 
 /// The gateway where the client's tunnel ends and the circle begins.
@@ -168,10 +172,10 @@ fn set_up_goes_on() {
         let mut circle = Circle::new(gateways, 0);
         circle.open(1);
         let mut all = vec![circle.enter(1), circle.enter(1)];
-        let mut answer = circle.set_up(1);
-        while answer != "(lost 6)" {
+        let mut goes_on = true;
+        while goes_on {
             for _ in 0..set_up_steps {
-                answer = if answer == "(lost 6)" { answer } else { circle.set_up(1) };
+                goes_on = goes_on && circle.set_up(1) != "(lost 6)";
             }
             for _ in 0..data_steps {
                 all.retain_mut(|data| circle.step(data));
@@ -205,8 +209,5 @@ fn random_lists_meet_every_count() {
         assert_eq!(difference_from_list(&list, &output), None, "SEED={seed}, list {index}");
         met(&list.calls)
     });
-    let (met, kinds): (Vec<String>, String) = (met.into_iter().flatten().collect(), kinds());
-    let others: Vec<_> = met.iter().filter(|&kind| !kinds.split('|').any(|known| known == kind)).collect();
-    assert!(others.is_empty(), "what there is not: {others:?}");
-    check_met(met, &kinds, count >= 300);
+    check_met_alone(met.into_iter().flatten().collect(), &kinds(), count >= 300);
 }
