@@ -23,7 +23,6 @@ use Rattle.forms.specs.declared.read.Parsed.{Parsed}
 use Rattle.forms.specs.declared.read.Parsed.the-variants.{Asks, Refused}
 use Rattle.forms.specs.Read.{read}
 use Rattle.forms.specs.Request.{asked}
-use Rattle.model.specs.Packet.{noHeader}
 use Rattle.model.specs.Item.{isWait, vacant}
 use Rattle.model.specs.State.{fresh, load}
 use Rattle.model.specs.Calls.{Call, call, linesOf, after, replies, roomyCall}
@@ -95,6 +94,9 @@ packet from to y hops h = record { source = from; destination = to; payload = y;
 abbrev pub header : ℕ → ℕ → ℕ → ℕ → Header
 header from to spi hops = record { from = from; to = to; spi = record { 0 = spi }; hops = hops }
 
+abbrev pub inNoTunnel : Header
+inNoTunnel = header 0 0 0 0
+
 abbrev pub row : ℕ → Bool → ℕ → ℕ → ℕ → ℕ → Row
 row a out from to q e = record { node = a; out = out; source = from; destination = to; peers = record { first = q }; establishment = e }
 
@@ -149,7 +151,7 @@ middleOfC =
       sees = record {
         stage = Stage.SettingUp;
         ends = some (1, 2);
-        items = item 3 (Dwait 2) ∷ item 12 (Out 1 (packet 1 2 (Rep 1) 32 noHeader)) ∷ item 6 (Ewait 2 1)
+        items = item 3 (Dwait 2) ∷ item 12 (Out 1 (packet 1 2 (Rep 1) 32 inNoTunnel)) ∷ item 6 (Ewait 2 1)
             ∷ item 14 (Wire 1 (packet 1 2 (Data 77) 32 (header 1 2 288 32))) ∷ [];
         rows = row 1 true 1 2 2 1 ∷ row 1 false 2 1 2 1 ∷ [];
         begun = 1;
@@ -165,7 +167,7 @@ endOfC =
       sees = record {
         stage = Stage.SettingUp;
         ends = some (1, 2);
-        items = item 3 (Dwait 2) ∷ item 12 (Out 1 (packet 1 2 (Rep 1) 32 noHeader)) ∷ item 6 (Ewait 2 1) ∷ [];
+        items = item 3 (Dwait 2) ∷ item 12 (Out 1 (packet 1 2 (Rep 1) 32 inNoTunnel)) ∷ item 6 (Ewait 2 1) ∷ [];
         rows = row 1 true 1 2 2 1 ∷ row 1 false 2 1 2 1 ∷ [];
         begun = 1;
         last = 16;
@@ -180,7 +182,7 @@ discOfAnAck =
       sees = record {
         stage = Stage.SettingUp;
         ends = some (1, 4);
-        items = item 20 (Wire 3 (packet 1 4 (Disc 2) 31 noHeader)) ∷ item 23 (Wire 2 (packet 1 4 (Data 77) 32 (header 1 2 288 31))) ∷ [];
+        items = item 20 (Wire 3 (packet 1 4 (Disc 2) 31 inNoTunnel)) ∷ item 23 (Wire 2 (packet 1 4 (Data 77) 32 (header 1 2 288 31))) ∷ [];
         rows = row 1 true 1 4 2 1 ∷ row 1 false 4 1 2 1 ∷ row 2 true 4 1 1 1 ∷ row 2 false 1 4 1 1 ∷ [];
         begun = 1;
         last = 23;
@@ -213,7 +215,7 @@ sentOutAgain =
       sees = record {
         stage = Stage.SettingUp;
         ends = some (1, 3);
-        items = item 41 (Out 2 (packet 3 1 Done 32 noHeader)) ∷ [];
+        items = item 41 (Out 2 (packet 3 1 Done 32 inNoTunnel)) ∷ [];
         rows = row 1 true 1 3 2 1 ∷ row 1 false 3 1 2 1 ∷ row 2 true 3 1 1 1 ∷ row 2 false 1 3 1 1
             ∷ row 2 true 1 3 3 2 ∷ row 2 false 3 1 3 2 ∷ row 3 true 3 1 2 2 ∷ row 3 false 1 3 2 2
             ∷ [];
@@ -245,7 +247,7 @@ fewerBare =
       sees = record {
         stage = Stage.SettingUp;
         ends = some (1, 4);
-        items = item 20 (Wire 3 (packet 1 4 (Disc 2) 31 noHeader)) ∷ item 26 (Wire 2 (packet 1 4 (Data 77) 31 noHeader)) ∷ [];
+        items = item 20 (Wire 3 (packet 1 4 (Disc 2) 31 inNoTunnel)) ∷ item 26 (Wire 2 (packet 1 4 (Data 77) 31 inNoTunnel)) ∷ [];
         rows = discOfAnAck .sees .rows;
         begun = 1;
         last = 26;
@@ -260,7 +262,7 @@ noHopsLeft =
       sees = record {
         stage = Stage.SettingUp;
         ends = some (1, 4);
-        items = item 60 (Wire 2 (packet 1 4 (Disc 2) 32 noHeader)) ∷ item 188 (Out 2 (packet 1 4 (Data 77) 0 noHeader)) ∷ [];
+        items = item 60 (Wire 2 (packet 1 4 (Disc 2) 32 inNoTunnel)) ∷ item 188 (Out 2 (packet 1 4 (Data 77) 0 inNoTunnel)) ∷ [];
         rows = row 1 true 1 4 2 1 ∷ row 1 false 4 1 2 1 ∷ row 2 true 4 1 1 1 ∷ row 2 false 1 4 1 1
             ∷ row 2 true 1 4 3 2 ∷ row 2 false 4 1 3 2 ∷ row 3 true 4 1 2 2 ∷ row 3 false 1 4 2 2
             ∷ row 3 true 1 4 2 3 ∷ row 3 false 4 1 2 3 ∷ row 2 true 4 1 3 3 ∷ row 2 false 1 4 3 3
@@ -278,7 +280,7 @@ onlyWaitsAndData =
       sees = record {
         stage = Stage.SettingUp;
         ends = some (1, 2);
-        items = item 3 (Dwait 2) ∷ item 9 (Wire 1 (packet 1 2 (Data 77) 32 noHeader)) ∷ item 6 (Ewait 2 1) ∷ [];
+        items = item 3 (Dwait 2) ∷ item 9 (Wire 1 (packet 1 2 (Data 77) 32 inNoTunnel)) ∷ item 6 (Ewait 2 1) ∷ [];
         rows = [];
         begun = 1;
         last = 9;

@@ -96,8 +96,8 @@ onward (Default next) p = only (WroteByDefault (Wire next p))
 onward Missing p = lost NoRoute
 
 -- wire(a, packet, h), where h is the count in use and `look` gives a's next hop for a node: "the first that fits". No list of calls tells
--- the order of lost 1 and lost 2: bare Data or Done is lost at the first gateway, and with one of the 32 nodes a gateway it comes there
--- before its 32 hops are over, or never
+-- the order of lost 1 and lost 2: bare Data or Done is lost at the first gateway. From a host it comes there before its 32 hops are over,
+-- or never, since one of the 32 nodes is a gateway; and what is sent out again until none is left goes round gateways that all have a row
 unfoldable pub wireRule : Bool → (ℕ → NextHop) → Session → ℕ → Packet → Effect
 wireRule gateway look s a p =
     cond (discovers gateway (s .server) a (p .payload))
