@@ -17,8 +17,8 @@ const STEPS: &str = "Disc bare, (lost 2)|Req bare, (lost 2)|Rep bare, (lost 2)|D
 /// What is there when Data is sent out again in a circle.
 const BESIDE: &str = "round beside the set-up|round beside Data of another count|round beside Data of another session";
 
-/// The most times that Data is sent out again on a way that ends: by seven gateways.
-const OUTS_ON_A_LINE: u64 = 7;
+/// The most hops that are taken of Data, in a tunnel or about to be sent out again, on a way that ends: behind eight tunnels.
+const TAKEN_ON_A_LINE: u64 = 7;
 
 /// All that there is, with `|` between. Data is sent out again with every count, and lost only with none left.
 pub fn kinds() -> String {
@@ -90,5 +90,5 @@ fn count_in_a_circle(item: &Item) -> Option<u64> {
         Item::Wire { packet, .. } | Item::Up { packet, .. } if packet.header.is_some() => packet,
         _ => return None,
     };
-    (item.holds_data() && packet.hops < HOPS - OUTS_ON_A_LINE).then_some(packet.hops)
+    (item.holds_data() && packet.hops < HOPS - TAKEN_ON_A_LINE).then_some(packet.hops)
 }

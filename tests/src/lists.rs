@@ -172,17 +172,21 @@ impl Generator {
         1 + self.random.below(self.sessions)
     }
 
-    /// Steps the lowest item that is no wait. An idle session is opened; one with nothing to step sends or closes.
+    /// Goes on with the lowest item that is no wait.
     fn drive(&mut self) {
         let session = self.session();
         let (steppable, _) = self.simulator.pending(session);
+        let send = self.simulator.in_use(session) && self.random.one_in(25);
+        self.go_on(session, send, steppable.first().copied());
+    }
+
+    /// Sends, or steps the item. An idle session is opened; one with nothing to step sends or closes.
+    fn go_on(&mut self, session: u64, send: bool, item: Option<u64>) {
         if !self.simulator.in_use(session) {
             self.open(session);
-        } else if self.random.one_in(25) {
-            self.send(session);
-        } else if let Some(&item) = steppable.first() {
+        } else if let Some(item) = item.filter(|_| !send) {
             self.step(session, item);
-        } else if self.random.one_in(5) {
+        } else if !send && self.random.one_in(5) {
             self.close(session);
         } else {
             self.send(session);

@@ -81,7 +81,7 @@ fn header_from_a_gateway() {
 /// Seven gateways and the longest ways between them. Done and Data go through eight tunnels of up to 31 hops, since each header
 /// brings 32, and each gateway takes but one.
 #[test]
-fn tunnels_longer_than_a_count() {
+fn tunnels_together_longer_than_a_count() {
     let nodes = (1..=32).map(|node| if (2..=8).contains(&node) { gate(node) } else { host(node) });
     let mut recorder = Recorder::after(&accepted(nodes.chain(forms(&longest_chain()))));
     recorder.call("(open 1 1 9)");

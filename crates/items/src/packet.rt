@@ -6,7 +6,6 @@ use calculus::packet::Header;
 use calculus::packet::Packet;
 use calculus::packet::Payload;
 ghost use mathlib.Core.Path.{_≡_};
-ghost use lib.Dec.{eqb};
 ghost use Rattle.model.specs.Packet as spec;
 
 pub fn no_header() -> Header
@@ -77,7 +76,7 @@ fn hops_left(p: Packet) -> u8
 }
 
 pub fn no_hops_left(p: Packet) -> bool
-    ensures { λ r. ⌜ r ≡ eqb (spec.hopsLeft p) 0 ⌝ }
+    ensures { λ r. ⌜ r ≡ spec.noHopsLeft p ⌝ }
 {
     let left = hops_left(p);
     left == 0

@@ -20,15 +20,15 @@ use Rattle.calculus.specs.declared.packet.Item.the-variants.{Wire, Out, Est}
 use Rattle.calculus.specs.declared.state.Part.{Part}
 use Rattle.model.specs.Lists.{All}
 use Rattle.model.specs.Network.{isGateway, nextHop, hasAllNeeded}
-use Rattle.model.specs.Packet.{hopLimit, bare, under, target, hopsLeft, fewer}
+use Rattle.model.specs.Packet.{hopLimit, bare, under, target, noHopsLeft, fewer}
 use Rattle.model.specs.Row.{held, newest, admits, areNodes}
-use Rattle.model.specs.Rules.{lost, writes, isExhausted, begin, discovers, unprotected, onward, wireRule, sent, outRule, admitted, matched, received, upRule, estRule, authRule, grantRule, acknowledged, ackRule, rule}
+use Rattle.model.specs.Rules.{lost, writes, isExhausted, begin, discovers, unprotected, onward, wireRule, sent, created, outRule, admitted, matched, received, upRule, estRule, authRule, grantRule, acknowledged, ackRule, rule}
 use Rattle.model.specs.State.{begunAfter, addedRows}
 use Rattle.model.specs.Termination.{tripSteps, ceiling, isActive}
 use Rattle.model.proofs.Discovers.{server-discovers, not-exhausted}
 use Rattle.model.proofs.Named.{Written}
 use Rattle.model.proofs.Places.{node-bounds}
-use Rattle.model.proofs.Trips.{bareWith, Trip, atSource, onWire, Travels, gone, further, hops, comes, travels, trip-some}
+use Rattle.model.proofs.Trips.{bareWith, Trip, atSource, onWire, Travels, gone, further, moves, comes, travels, trip-some}
 use Rattle.model.proofs.Underway.{Leaves, Ends, Discovering, Begun, Returning, Underway, discovering, establishing, requesting, responderAuth, responderGrant, replying, initiatorAuth, initiatorGrant, acknowledging, doneOut, doneOnWire, doneUp, doneBare}
 use Rattle.model.proofs.Points.{nextNode, points, walk-found, walk-on, points-next, after-client, between-next, met-once, Chained, responderOut, responderIn, initiatorOut, initiatorIn, never-tunnelled, passed}
 
@@ -76,7 +76,7 @@ module _ (net : Network) (t : Part) (n : ℕ) where
         → ((k : ℕ) (i : Item) → Trip x z y k i → k < j → Place i) → After (received z x y) → After f
     on-trip h (gone l) g r = loses h
     on-trip h (further k i w m) g r = wrote h (g k i w m)
-    on-trip h (hops next k m) g r = moved-on next _ h (g (k + 2) _ (onWire (nextNode next) k) m)
+    on-trip h (moves next k m) g r = moved-on next _ h (g (k + 2) _ (onWire (nextNode next) k) m)
     on-trip h comes g r = r
 
     -- the client discovers nothing
@@ -173,7 +173,7 @@ module _ (net : Network) (t : Part) (n : ℕ) where
         let e = eqb-true a d o in
         never (sym g ∙ server-discovers (isGateway net a) d a (point b) (λ y. w .before (sym y ∙ e)) e))
         (λ o. either After (unprotected (isGateway net a) p) (λ o. loses few)
-        (λ o. either After (eqb h 0) (λ z. loses few) (λ z. onward-disc a h w g (eqb-false h 0 z)))))
+        (λ o. either After (noHopsLeft p) (λ z. loses few) (λ z. onward-disc a h w g (eqb-false h 0 z)))))
     advances x (establishing i w k) =
         record { counted = omega arith; written = (λ o. requesting i w atSource (omega arith), λ o. never o); added = tt }
     advances x (requesting i w v k) =
@@ -212,8 +212,9 @@ module _ (net : Network) (t : Part) (n : ℕ) where
         }
     advances x (acknowledging i w k) = record { counted = omega arith; written = λ o. ack-next i w k; added = tt }
     advances i (doneOut m x k o w l) =
-        either After (eqb x d) (λ e. done-sent m x k o w l)
-        (λ e. either After (eqb m 0) (λ z. loses (omega (arith, w .least))) (λ z. done-sent (m - 1) x k (omega arith) w l))
+        let p = bareWith d c Done m in
+        either After (created x p) (λ e. done-sent m x k o w l)
+        (λ e. either After (noHopsLeft p) (λ z. loses (omega (arith, w .least))) (λ z. done-sent (m - 1) x k (omega arith) w l))
     advances i (doneOnWire m k h y o u w l) =
         let p = under (bareWith d c Done m) h in
         let few : n + 1 ≤ ceiling = omega arith in
@@ -221,7 +222,7 @@ module _ (net : Network) (t : Part) (n : ℕ) where
         let outer : fewer p .header .hops ≡ h .hops - 1 = rw u in
         either After (eqb y (target p)) (λ e. wrote few (doneUp m k h y o u w (omega arith)))
         (λ e. either After (unprotected (isGateway net y) p) (λ o. loses few)
-        (λ e. either After (eqb (hopsLeft p) 0) (λ z. loses few)
+        (λ e. either After (noHopsLeft p) (λ z. loses few)
         (λ z. moved-on (nextHop net y (target p)) (fewer p) few
         (doneOnWire (fewer p .hops) k (fewer p .header) _ inner u w (omega (arith, outer, eqb-false (h .hops) 0 (rw u at z)))))))
     advances i (doneUp m k h y o u w l) =

@@ -25,9 +25,9 @@ use Rattle.calculus.specs.declared.session.Row.{Row}
 use Rattle.calculus.specs.declared.session.Session.{Session}
 use Rattle.calculus.specs.declared.state.Part.{Part}
 use Rattle.model.specs.Network.{isGateway, nextHop, hasAllNeeded}
-use Rattle.model.specs.Packet.{target, hopsLeft, fewer, isData}
+use Rattle.model.specs.Packet.{target, noHopsLeft, fewer, isData}
 use Rattle.model.specs.Row.{held}
-use Rattle.model.specs.Rules.{writesFor, discovers, isExhausted, unprotected, onward, wireRule, outRule, admitted, matched, received, upRule, estRule, authRule, grantRule, ackRule, rule}
+use Rattle.model.specs.Rules.{writesFor, discovers, isExhausted, unprotected, onward, wireRule, created, outRule, admitted, matched, received, upRule, estRule, authRule, grantRule, ackRule, rule}
 use Rattle.model.specs.State.{writtenCount, stageAfter, begunAfter, addedRows}
 use Rattle.model.specs.SetUp.{isPending}
 use Rattle.model.proofs.Checks.{one}
@@ -69,13 +69,13 @@ wire-law gateway look s a p =
     omega (arith, ap packetSpace x, ap (λ (y : Payload). one (not (isData y) && true)) x, not-exhausted s e)))
     (λ e. either P (eqb a (target p)) (λ e. omega arith)
     (λ e. either P (unprotected gateway p) (λ e. omega arith)
-    (λ e. either P (eqb (hopsLeft p) 0) (λ e. omega arith) (λ e. onward-law (look (target p)) s a p))))
+    (λ e. either P (noHopsLeft p) (λ e. omega arith) (λ e. onward-law (look (target p)) s a p))))
 
 out-law : (s : Session) (rows : List Row) (a : ℕ) (p : Packet) → Law s (Out a p) (outRule rows a p)
 unfolding uses space carries active due outRule
 out-law s rows a p =
     let P = Law s (Out a p) in
-    either P (eqb a (p .source)) (λ e. omega arith) (λ e. either P (eqb (hopsLeft p) 0) (λ e. omega arith) (λ e. omega arith))
+    either P (created a p) (λ e. omega arith) (λ e. either P (noHopsLeft p) (λ e. omega arith) (λ e. omega arith))
 
 -- the packet with this destination and payload
 abbrev carrying : Packet → ℕ → Payload → Packet

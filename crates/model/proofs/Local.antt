@@ -50,7 +50,9 @@ and-same false false b h = refl
 -- where an in row of this part tells that its association stands, no rule reads what stands
 module _ (n : Network) (standing : ℕ → ℕ → Bool) (t : Part) (h : (a q : ℕ) → admits (held t) a q ≡ true → standing a q ≡ areNodes a q) where
   admitted-same : (a : ℕ) (x : Header) → admitted standing (held t) a x ≡ admitted areNodes (held t) a x
-  admitted-same a x = ap (λ (y : Bool). isBare x || y) (and-same (standing a (x .from)) (areNodes a (x .from)) (admits (held t) a (x .from)) (h a (x .from)))
+  admitted-same a x =
+      let q = x .from in
+      ap (λ (y : Bool). isBare x || y) (and-same (standing a q) (areNodes a q) (admits (held t) a q) (h a q))
 
   rule-same : (i : Item) → rule n standing t i ≡ rule n areNodes t i
   unfolding rule upRule

@@ -27,9 +27,9 @@ use Rattle.calculus.specs.declared.session.Row.{Row}
 use Rattle.calculus.specs.declared.session.Session.{Session}
 use Rattle.calculus.specs.declared.state.Part.{Part}
 use Rattle.model.specs.Network.{isGateway, nextHop, hasAllNeeded}
-use Rattle.model.specs.Packet.{hopLimit, isBare, bare, target, hopsLeft, fewer}
+use Rattle.model.specs.Packet.{hopLimit, isBare, bare, target, noHopsLeft, fewer}
 use Rattle.model.specs.Row.{held, newest, areNodes}
-use Rattle.model.specs.Rules.{discovers, lastPoint, isExhausted, unprotected, onward, wireRule, headerTo, sent, outRule, admitted, matched, received, upRule, estRule, authRule, grantRule, ackRule, rule}
+use Rattle.model.specs.Rules.{discovers, lastPoint, isExhausted, unprotected, onward, wireRule, headerTo, sent, created, outRule, admitted, matched, received, upRule, estRule, authRule, grantRule, ackRule, rule}
 use Rattle.model.specs.State.{addedRows}
 use Rattle.model.specs.SetUp.{isDisc, FewHops, LeadsToGiven}
 use Rattle.model.specs.Lists.{All}
@@ -119,7 +119,7 @@ wire-named n s a p k o =
     (λ e. either P (eqb a (target p))
     (λ w. ((o .0, o .1, arrives v gateway a (p .payload) (p .destination) (p .header) e (o .2) (eqb-true a (target p) w)), tt))
     (λ e. either P (unprotected gateway p) (λ e. (tt, tt))
-    (λ e. either P (eqb (hopsLeft p) 0) (λ e. (tt, tt)) (λ e. onward-named n v (nextHop n a (target p)) a (fewer p) k (o .0, fewer-named p (o .1), o .2)))))
+    (λ e. either P (noHopsLeft p) (λ e. (tt, tt)) (λ e. onward-named n v (nextHop n a (target p)) a (fewer p) k (o .0, fewer-named p (o .1), o .2)))))
 
 header-few : (a : ℕ) (x : Peers) → headerTo a x .hops ≤ hopLimit
 header-few a x = either (λ (h : Header). h .hops ≤ hopLimit) (eqb (x .first) 0) (λ e. omega arith) (λ e. omega arith)
@@ -131,8 +131,8 @@ out-named : (v : ℕ) (rows : List Row) (a : ℕ) (p : Packet) → Named v (Out 
 unfolding outRule
 out-named v rows a p o =
     let P = EffectNamed v in
-    either P (eqb a (p .source)) (λ e. sent-named v rows a p (o .0) (o .1) (o .2))
-    (λ e. either P (eqb (hopsLeft p) 0) (λ e. (tt, tt)) (λ e. sent-named v rows a (fewer p) (o .0) (fewer-named p (o .1)) (o .2)))
+    either P (created a p) (λ e. sent-named v rows a p (o .0) (o .1) (o .2))
+    (λ e. either P (noHopsLeft p) (λ e. (tt, tt)) (λ e. sent-named v rows a (fewer p) (o .0) (fewer-named p (o .1)) (o .2)))
 
 received-named : (v a b : ℕ) (y : Payload) → Node a → Node b → EffectNamed v (received a b y)
 received-named v a b (Req e) h k = ((h, k), tt)

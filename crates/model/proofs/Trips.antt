@@ -1,7 +1,7 @@
 -- The way of a packet that goes bare from its source to its destination, and how many steps it takes. Assumes nothing.
 use mathlib.Core.Path.{_≡_, refl, sym, subst, _∙_}
 use mathlib.Core.Bool.{Bool, true, false, not}
-use Prim.Native.Nat.{ℕ, _+_, _≤_, _<_}
+use Prim.Native.Nat.{ℕ, _+_, _-_, _≤_, _<_}
 use native.Mathlib.Omega.{arith}
 use lib.Dec.{eqb}
 use borrow.Author.Tests.{eqb-true, eqb-false, eq-eqb}
@@ -16,9 +16,9 @@ use Rattle.calculus.specs.declared.packet.Item.{Item}
 use Rattle.calculus.specs.declared.packet.Item.the-variants.{Wire, Out, Up}
 use Rattle.calculus.specs.declared.state.Part.{Part}
 use Rattle.model.specs.Network.{isGateway, nextHop}
-use Rattle.model.specs.Packet.{hopLimit, noHeader, bare}
+use Rattle.model.specs.Packet.{hopLimit, noHeader, bare, noHopsLeft}
 use Rattle.model.specs.Row.{noPeers, held, newest, areNodes}
-use Rattle.model.specs.Rules.{lost, writes, discovers, unprotected, onward, wireRule, outRule, matched, received, upRule, rule}
+use Rattle.model.specs.Rules.{lost, writes, discovers, unprotected, onward, wireRule, created, outRule, matched, received, upRule, rule}
 use Rattle.model.specs.Termination.{tripSteps}
 
 -- a bare packet with h hops left
@@ -40,7 +40,7 @@ trip-some (arrived h) = omega arith
 pub data Travels (x z : ℕ) (y : Payload) (j : ℕ) : Effect → Type 0 where
   gone : (l : Loss) → Travels x z y j (lost l)
   further : (k : ℕ) (i : Item) → Trip x z y k i → k < j → Travels x z y j (writes i)
-  hops : (next : NextHop) (h : ℕ) → h + 2 < j → Travels x z y j (onward next (bareWith x z y h))
+  moves : (next : NextHop) (h : ℕ) → h + 2 < j → Travels x z y j (onward next (bareWith x z y h))
   comes : Travels x z y j (received z x y)
 
 module _ (n : Network) (t : Part) (x z : ℕ) (y : Payload)
@@ -49,13 +49,16 @@ module _ (n : Network) (t : Part) (x z : ℕ) (y : Payload)
   pub travels : {j : ℕ} {i : Item} → (tripSteps ≤ j → newest (held t) true x (bare x z y) ≡ noPeers) → Trip x z y j i
       → Travels x z y j (rule n areNodes t i)
   unfolding rule outRule wireRule upRule
-  travels none atSource = rw (eq-eqb x x refl, none (omega arith)) (further (hopLimit + 2) _ (onWire x hopLimit) (omega arith))
+  travels none atSource =
+      either (Travels x z y tripSteps) (created x (bare x z y))
+      (λ e. rw (none (omega arith)) (further (hopLimit + 2) _ (onWire x hopLimit) (omega arith)))
+      (λ e. rw (none (omega arith)) (further (hopLimit - 1 + 2) _ (onWire x (hopLimit - 1)) (omega arith)))
   travels none (onWire a h) =
       let p = bareWith x z y h in
       let P = Travels x z y (h + 2) in
       either P (discovers (isGateway n a) (t .session .server) a y) (λ e. never (sym (quiet _ _ _) ∙ e))
       (λ e. either P (eqb a z) (λ k. subst (λ (b : ℕ). P (writes (Up b p))) (sym (eqb-true a z k)) (further 1 _ (arrived h) (omega arith)))
       (λ e. either P (unprotected (isGateway n a) p) (λ e. gone _)
-      (λ e. either P (eqb h 0) (λ e. gone _) (λ e. hops (nextHop n a z) _ (omega (arith, eqb-false h 0 e))))))
+      (λ e. either P (noHopsLeft p) (λ e. gone _) (λ e. moves (nextHop n a z) _ (omega (arith, eqb-false h 0 e))))))
   travels none (arrived h) =
       either (Travels x z y 1) (not (matched (held t) z (bareWith x z y h))) (λ e. gone _) (λ e. rw (eq-eqb z z refl) comes)

@@ -23,5 +23,6 @@ pub mod LookUp
 pub mod Join
 pub mod Union
 pub mod Listings
+pub mod HopListings
 pub mod JoinListings
 pub mod ListingsHold

@@ -28,8 +28,9 @@ use Rattle.model.specs.State.{fresh, load}
 use Rattle.model.specs.Calls.{Call, call, linesOf, after, replies, roomyCall}
 use Rattle.model.specs.Noninterference.{View, view}
 use Rattle.model.specs.Termination.{setUpSteps, afterRounds}
+use Rattle.model.specs.HopListings.{roundInTunnels, hopListings}
 use Rattle.model.specs.JoinListings.{JoinListings}
-use Rattle.model.specs.Listings.{Exchange, Listing, listings, listingA, listingB, listingC, listingF, throughGateway, dataInFirstOfThree, bareOutAgain, threeTunnels, waitsLeft, roundInTunnels, furtherExamples}
+use Rattle.model.specs.Listings.{Exchange, Listing, listings, listingA, listingB, listingC, listingF, throughGateway, dataInFirstOfThree, bareOutAgain, threeTunnels, waitsLeft, furtherExamples}
 
 -- ---- what is written
 
@@ -84,7 +85,7 @@ pub record Moment : Type 0 where
 abbrev pub seenBehind : Listing → View
 seenBehind l = view (after fresh (map callOf l)) 1
 
--- an item with its number, a packet and a row, as document 01 lists their parts
+-- an item with its number, a packet and a row, as document 01 lists their parts, with #108's counts
 abbrev pub item : ℕ → Item → Slot
 item k i = record { number = record { 0 = k }; item = i }
 
@@ -174,7 +175,8 @@ endOfC =
       };
     }
 
--- with two gateways, after the first ack: its Disc, and data in the first tunnel, have each made one of their 32 hops
+-- with two gateways, after the first ack: its Disc has used one of its 32 hops; of data in the first tunnel the header has, and the data
+-- none
 abbrev pub discOfAnAck : Moment
 discOfAnAck =
     record {
@@ -255,8 +257,8 @@ fewerBare =
     }
 
 -- on the circle, before data is sent out again for the 33rd time; the Disc that the third ack wrote is a new packet
-abbrev pub noHopsLeft : Moment
-noHopsLeft =
+abbrev pub beforeThe33rd : Moment
+beforeThe33rd =
     record {
       calls = take 193 roundInTunnels;
       sees = record {
@@ -288,7 +290,7 @@ onlyWaitsAndData =
     }
 
 abbrev pub moments : List Moment
-moments = beforeAck ∷ endOfB ∷ endOfF ∷ middleOfC ∷ endOfC ∷ discOfAnAck ∷ endOfThreeTunnels ∷ sentOutAgain ∷ fewerBySending ∷ fewerBare ∷ noHopsLeft
+moments = beforeAck ∷ endOfB ∷ endOfF ∷ middleOfC ∷ endOfC ∷ discOfAnAck ∷ endOfThreeTunnels ∷ sentOutAgain ∷ fewerBySending ∷ fewerBare ∷ beforeThe33rd
     ∷ onlyWaitsAndData ∷ []
 
 -- ---- how many steps session 1 took
@@ -305,6 +307,8 @@ pub record Listings : Type 0 where
   pub lowestB : onlyLowest fresh listingB ≡ true
   pub lowestF : onlyLowest fresh listingF ≡ true
   pub further : map outputs furtherExamples ≡ map expected furtherExamples
+  -- #108's
+  pub hopCounts : map outputs hopListings ≡ map expected hopListings
   -- what no answer shows: stages, ends, items with their contents, rows in their order of age
   pub views : map (λ m. seenBehind (m .calls)) moments ≡ map (λ m. m .sees) moments
   -- #103's count behind A to I: C's steps of Data are not in it, A's second open begins it anew, H's close and session 2 leave it

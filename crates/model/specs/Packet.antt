@@ -17,12 +17,13 @@ hopLimit = 32
 abbrev pub noHeader : Header
 noHeader = record { from = 0; to = 0; spi = record { 0 = 0 }; hops = 0 }
 
+-- there is no header
 abbrev pub isBare : Header → Bool
 isBare h = eqb (h .to) 0
 
 -- ---- packets
 
--- a packet from a to b with no header: it "starts with 32"
+-- a new packet from a to b, with no header: it "starts with 32"
 abbrev pub bare : ℕ → ℕ → Payload → Packet
 bare a b y = record { source = a; destination = b; payload = y; hops = hopLimit; header = noHeader }
 
@@ -40,7 +41,11 @@ target p = cond (isBare (p .header)) (p .destination) (p .header .to)
 abbrev pub hopsLeft : Packet → ℕ
 hopsLeft p = cond (isBare (p .header)) (p .hops) (p .header .hops)
 
--- the packet with one taken from the count in use
+-- none are left: document 01's "h = 0"
+abbrev pub noHopsLeft : Packet → Bool
+noHopsLeft p = eqb (hopsLeft p) 0
+
+-- the packet with one taken from the count in use; no rule asks it of a count of 0, which would stay
 abbrev pub fewer : Packet → Packet
 fewer p =
     let h = p .header in

@@ -28,7 +28,7 @@ use Rattle.calculus.specs.declared.session.Session.{Session}
 use Rattle.calculus.specs.declared.state.Part.{Part}
 use Rattle.calculus.specs.declared.network.Network.{Network}
 use Rattle.model.specs.Network.{isGateway, nextHop, hasAllNeeded}
-use Rattle.model.specs.Packet.{hopLimit, noHeader, isBare, bare, under, target, hopsLeft, fewer, isDataOrDone}
+use Rattle.model.specs.Packet.{hopLimit, noHeader, isBare, bare, under, target, noHopsLeft, fewer, isDataOrDone}
 use Rattle.model.specs.Row.{held, inRow, outRow, newest, admits, spiOf}
 
 -- ---- effects
@@ -96,15 +96,16 @@ onward (Default next) p = only (WroteByDefault (Wire next p))
 onward Missing p = lost NoRoute
 
 -- wire(a, packet, h), where h is the count in use and `look` gives a's next hop for a node: "the first that fits". No list of calls tells
--- the order of lost 1 and lost 2: bare Data or Done is lost at the first gateway. From a host it comes there before its 32 hops are over,
--- or never, since one of the 32 nodes is a gateway; and what is sent out again until none is left goes round gateways that all have a row
+-- the order of lost 1 and lost 2: bare Data or Done is lost at the first gateway. From its source it comes there before its 32 hops are
+-- over, or never, with one of the 32 nodes a gateway; sent out again with no row it is at one, behind at most 8 tunnels, with 24 hops left
+-- or more
 unfoldable pub wireRule : Bool → (ℕ → NextHop) → Session → ℕ → Packet → Effect
 wireRule gateway look s a p =
     cond (discovers gateway (s .server) a (p .payload))
     (cond (isExhausted s) (lost Exhausted) (begin a (lastPoint (p .payload)) (s .begun + 1)))
     (cond (eqb a (target p)) (writes (Up a p))
     (cond (unprotected gateway p) (lost Unprotected)
-    (cond (eqb (hopsLeft p) 0) (lost HopLimit)
+    (cond (noHopsLeft p) (lost HopLimit)
     (onward (look (target p)) (fewer p)))))
 
 -- ---- out
@@ -115,15 +116,20 @@ headerTo a x =
     let q = x .first in
     cond (eqb q 0) noHeader (record { from = a; to = q; spi = spiOf true a q; hops = hopLimit })
 
+-- "give it the header (a, peer, SPI) of the matching out row, or none; write wire"
 abbrev pub sent : List Row → ℕ → Packet → Effect
 sent rows a p = writes (Wire a (under p (headerTo a (newest rows true a p))))
 
--- out(a, packet): its source created it, and "Sending out again at a node that didn't create the packet takes one from the inner count.
--- If the inner count is already 0, that out step answers lost 2 instead." A packet here is bare, so the count in use is the inner one
+-- a created the packet: its source did, but for the Disc that an ack writes, and no Disc comes to out
+abbrev pub created : ℕ → Packet → Bool
+created a p = eqb a (p .source)
+
+-- out(a, packet): "Sending out again at a node that didn't create the packet takes one from the inner count. If the inner count is
+-- already 0, that out step answers lost 2 instead." SetUp states that a packet is bare here, so the count in use is the inner one
 unfoldable pub outRule : List Row → ℕ → Packet → Effect
 outRule rows a p =
-    cond (eqb a (p .source)) (sent rows a p)
-    (cond (eqb (hopsLeft p) 0) (lost HopLimit) (sent rows a (fewer p)))
+    cond (created a p) (sent rows a p)
+    (cond (noHopsLeft p) (lost HopLimit) (sent rows a (fewer p)))
 
 -- ---- up
 

@@ -98,7 +98,7 @@ Pends l NoWait = Unit
 Pends l (Discovery a) = 1 ≤ howManyItems (isThatWait (Discovery a)) l
 Pends l (Establishment a e) = 1 ≤ howManyItems (isThatWait (Establishment a e)) l
 
--- neither count is above the 32 that it started with
+-- neither count is above 32
 abbrev pub FewHops : Packet → Type 0
 FewHops p = (p .hops ≤ hopLimit) × (p .header .hops ≤ hopLimit)
 

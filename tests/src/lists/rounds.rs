@@ -22,26 +22,18 @@ pub fn rounds(seed: u64, index: u64, late: LateNetwork) -> List {
 }
 
 impl Generator {
-    /// Steps a set-up, or Data beside it and behind it. An idle session is opened; one with nothing to step sends or closes.
+    /// Goes on with a set-up, or with Data beside it and behind it.
     fn go_round(&mut self) {
         let session = self.session();
         let set_up = self.simulator.active(session).first().copied();
         let data = self.data_to_step(session, set_up.is_some());
         let roll = self.random.below(100);
-        let item = if roll < self.lowest { set_up.or(data) } else { data.or(set_up) };
         if roll >= self.lowest + self.any {
-            self.anything();
-        } else if !self.simulator.in_use(session) {
-            self.open(session);
-        } else if set_up.is_some() && self.random.one_in(30) {
-            self.send(session);
-        } else if let Some(item) = item {
-            self.step(session, item);
-        } else if self.random.one_in(5) {
-            self.close(session);
-        } else {
-            self.send(session);
+            return self.anything();
         }
+        let send = set_up.is_some() && self.random.one_in(30);
+        let item = if roll < self.lowest { set_up.or(data) } else { data.or(set_up) };
+        self.go_on(session, send, item);
     }
 
     /// The newest Data of a session, or the lowest, or any. While the set-up goes on, Data mostly waits where it is first sent out
