@@ -22,7 +22,7 @@ use Rattle.model.specs.Lists.{All}
 use Rattle.model.specs.Network.{isGateway, nextHop, hasAllNeeded}
 use Rattle.model.specs.Packet.{hopLimit, bare, under, target, noHopsLeft, fewer}
 use Rattle.model.specs.Row.{held, newest, admits, areNodes}
-use Rattle.model.specs.Rules.{lost, writes, isExhausted, begin, discovers, unprotected, onward, wireRule, sent, created, outRule, admitted, matched, received, upRule, estRule, authRule, grantRule, acknowledged, ackRule, rule}
+use Rattle.model.specs.Rules.{lost, writes, isExhausted, begin, discovers, unprotected, onward, wireRule, sent, created, outRule, stripped, admitted, matched, received, upRule, estRule, authRule, grantRule, acknowledged, ackRule, rule}
 use Rattle.model.specs.State.{begunAfter, addedRows}
 use Rattle.model.specs.Termination.{tripSteps, ceiling, isActive}
 use Rattle.model.proofs.Discovers.{server-discovers, not-exhausted}
@@ -231,10 +231,11 @@ module _ (net : Network) (t : Part) (n : ℕ) where
         let x = h .from in
         let admit = admitted areNodes (held t) y (p .header) in
         let match = matched (held t) y p in
+        let from : stripped h .first ≡ x = rw u in
         either After (not admit) (λ e. loses few)
         (λ e. either After (not match) (λ g. loses few)
         (λ g. either After (not (eqb c y))
-        (λ f. done-through _ x k y (omega arith) w l (both (areNodes y x) (admits (held t) y x) (rw u at (not-false admit e)) .0) (eqb-true _ x (rw u at (not-false match g)))
+        (λ f. done-through _ x k y (omega arith) w l (both (areNodes y x) (admits (held t) y x) (rw u at (not-false admit e)) .0) (eqb-true _ _ (not-false match g) ∙ from)
         (eqb-false c y (not-true (eqb c y) f)))
         (λ f. record { counted = few; written = tt; added = tt })))
     advances i (doneBare v l m) =

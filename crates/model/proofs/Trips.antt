@@ -1,7 +1,7 @@
 -- The way of a packet that goes bare from its source to its destination, and how many steps it takes. Assumes nothing.
 use mathlib.Core.Path.{_≡_, refl, sym, subst, _∙_}
 use mathlib.Core.Bool.{Bool, true, false, not}
-use Prim.Native.Nat.{ℕ, _+_, _-_, _≤_, _<_}
+use Prim.Native.Nat.{ℕ, _+_, _≤_, _<_}
 use native.Mathlib.Omega.{arith}
 use lib.Dec.{eqb}
 use borrow.Author.Tests.{eqb-true, eqb-false, eq-eqb}
@@ -16,7 +16,7 @@ use Rattle.calculus.specs.declared.packet.Item.{Item}
 use Rattle.calculus.specs.declared.packet.Item.the-variants.{Wire, Out, Up}
 use Rattle.calculus.specs.declared.state.Part.{Part}
 use Rattle.model.specs.Network.{isGateway, nextHop}
-use Rattle.model.specs.Packet.{hopLimit, noHeader, bare, noHopsLeft}
+use Rattle.model.specs.Packet.{noHeader, bare, noHopsLeft, fewer}
 use Rattle.model.specs.Row.{noPeers, held, newest, areNodes}
 use Rattle.model.specs.Rules.{lost, writes, discovers, unprotected, onward, wireRule, created, outRule, matched, received, upRule, rule}
 use Rattle.model.specs.Termination.{tripSteps}
@@ -50,9 +50,10 @@ module _ (n : Network) (t : Part) (x z : ℕ) (y : Payload)
       → Travels x z y j (rule n areNodes t i)
   unfolding rule outRule wireRule upRule
   travels none atSource =
-      either (Travels x z y tripSteps) (created x (bare x z y))
-      (λ e. rw (none (omega arith)) (further (hopLimit + 2) _ (onWire x hopLimit) (omega arith)))
-      (λ e. rw (none (omega arith)) (further (hopLimit - 1 + 2) _ (onWire x (hopLimit - 1)) (omega arith)))
+      let p = bare x z y in
+      either (Travels x z y tripSteps) (created x p)
+      (λ e. rw (none (omega arith)) (further (p .hops + 2) _ (onWire x (p .hops)) (omega arith)))
+      (λ e. rw (none (omega arith)) (further (fewer p .hops + 2) _ (onWire x (fewer p .hops)) (omega arith)))
   travels none (onWire a h) =
       let p = bareWith x z y h in
       let P = Travels x z y (h + 2) in
