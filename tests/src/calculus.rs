@@ -5,7 +5,7 @@ use std::collections::BTreeMap;
 
 /// The hops that a packet starts with, and that a header brings.
 pub const HOPS: u64 = 32;
-const MOST_ESTABLISHMENTS: u64 = 8;
+pub const MOST_ESTABLISHMENTS: u64 = 8;
 
 /// The most steps that a packet takes on the wire by one count: one at each number of hops left, from all to none.
 const WIRE_STEPS: u64 = HOPS + 1;
@@ -27,6 +27,12 @@ pub enum Payload {
     Disc(u64),
     Done,
     Data(u64),
+}
+
+impl Payload {
+    fn names(&self, establishment: u64) -> bool {
+        matches!(self, Payload::Req(named) | Payload::Rep(named) if *named == establishment)
+    }
 }
 
 #[derive(Clone, Copy, Debug, PartialEq)]
@@ -103,6 +109,21 @@ impl Item {
         }
     }
 
+    /// Whether it names the establishment, so that this can't be dropped (#109).
+    pub fn names(&self, establishment: u64) -> bool {
+        match self {
+            Item::Wire { packet, .. } | Item::Out { packet, .. } | Item::Up { packet, .. } => {
+                packet.payload.names(establishment)
+            }
+            Item::Est { establishment: named, .. }
+            | Item::Auth { establishment: named, .. }
+            | Item::Grant { establishment: named, .. }
+            | Item::Ack { establishment: named, .. }
+            | Item::Ewait { establishment: named, .. } => *named == establishment,
+            Item::Dwait { .. } => false,
+        }
+    }
+
     /// Whether it is an item of the set-up that can be stepped: neither a wait nor Data.
     pub fn is_active(&self) -> bool {
         !self.waits() && !self.holds_data()
@@ -162,6 +183,7 @@ pub struct Session {
     pub items: BTreeMap<u64, Item>,
     /// oldest first
     pub rows: Vec<Row>,
+    /// a drop leaves it: its establishment still counts as begun
     pub begun: u64,
 }
 
@@ -179,6 +201,14 @@ impl Session {
     pub fn data(&self, side: u64, tag: u64) -> Item {
         let (at, to) = if side == 0 { (self.client, self.server) } else { (self.server, self.client) };
         Item::Out { at, packet: Packet::bare(at, to, Payload::Data(tag)) }
+    }
+
+    /// Removes the rows that the establishment added, at both nodes or at the one that granted (#109); whether there were any.
+    /// The others keep their order.
+    pub fn remove_rows(&mut self, establishment: u64) -> bool {
+        let before = self.rows.len();
+        self.rows.retain(|row| row.establishment != establishment);
+        self.rows.len() < before
     }
 
     /// Applies the item's rule; the item itself is already taken off.
@@ -312,10 +342,9 @@ impl Session {
 
     fn newest_match(&self, at: u64, direction: Direction, packet: &Packet) -> Option<&Row> {
         self.rows.iter().rev().find(|row| {
-            let own = matches!(packet.payload, Payload::Req(e) | Payload::Rep(e) if e == row.establishment);
             (row.association.node, row.association.direction) == (at, direction)
                 && row.filter == (packet.source, packet.destination)
-                && !own
+                && !packet.payload.names(row.establishment)
         })
     }
 

@@ -1,5 +1,6 @@
 //! Reads one line of the form language: first its shape (refusal 1), then the range of its numbers (refusal 2).
 
+use crate::calculus::MOST_ESTABLISHMENTS;
 use crate::network::DEFAULT;
 use std::ops::RangeInclusive;
 
@@ -11,6 +12,7 @@ pub const NODES: RangeInclusive<u64> = 1..=32;
 const DESTINATIONS: RangeInclusive<u64> = DEFAULT..=32;
 pub const SESSIONS: RangeInclusive<u64> = 1..=8;
 const ITEMS: RangeInclusive<u64> = 1..=1_000_000;
+const ESTABLISHMENTS: RangeInclusive<u64> = 1..=MOST_ESTABLISHMENTS;
 const SIDES: RangeInclusive<u64> = 0..=1;
 const TAGS: RangeInclusive<u64> = 0..=4_294_967_295;
 const LAST_CREDENTIAL: u64 = 63;
@@ -24,6 +26,7 @@ pub enum Form {
     Step { session: u64, item: u64 },
     Send { session: u64, side: u64, tag: u64 },
     Close { session: u64 },
+    Drop { session: u64, establishment: u64 },
     Show,
     Net,
 }
@@ -50,6 +53,9 @@ impl Form {
                 Form::Send { session: number(session)?, side: number(side)?, tag: number(tag)? }
             }
             ["close", session] => Form::Close { session: number(session)? },
+            ["drop", session, establishment] => {
+                Form::Drop { session: number(session)?, establishment: number(establishment)? }
+            }
             ["show"] => Form::Show,
             ["net"] => Form::Net,
             _ => return None,
@@ -71,6 +77,9 @@ impl Form {
                 SESSIONS.contains(session) && SIDES.contains(side) && TAGS.contains(tag)
             }
             Form::Close { session } => SESSIONS.contains(session),
+            Form::Drop { session, establishment } => {
+                SESSIONS.contains(session) && ESTABLISHMENTS.contains(establishment)
+            }
             Form::Show | Form::Net => true,
         }
     }
@@ -81,7 +90,8 @@ impl Form {
             Form::Open { session, .. }
             | Form::Step { session, .. }
             | Form::Send { session, .. }
-            | Form::Close { session } => Some(*session).filter(|session| SESSIONS.contains(session)),
+            | Form::Close { session }
+            | Form::Drop { session, .. } => Some(*session).filter(|session| SESSIONS.contains(session)),
             Form::Node { .. } | Form::Route { .. } | Form::Show | Form::Net => None,
         }
     }

@@ -1,4 +1,4 @@
-//! A second implementation of document 01 and requests #101 to #104 and #106 to #108 of document 02, written from the
+//! A second implementation of document 01 and requests #101 to #104 and #106 to #109 of document 02, written from the
 //! documents alone, and what the tests share.
 
 pub mod arrivals;

@@ -78,6 +78,8 @@ struct Generator {
     lowest: u64,
     any: u64,
     sessions: u64,
+    /// one in so many calls that go on with a session drops a tunnel instead
+    drops: u64,
     late: LateNetwork,
 }
 
@@ -88,9 +90,12 @@ const EDGES: [u64; 21] = [
 ];
 
 impl Generator {
-    fn new(random: Random, topology: Topology, mix: (u64, u64), sessions: u64, late: LateNetwork) -> Self {
+    fn new(mut random: Random, topology: Topology, mix: (u64, u64), sessions: u64, late: LateNetwork) -> Self {
         let (lowest, any) = mix;
-        Generator { random, simulator: Simulator::new(), topology, list: List::default(), lowest, any, sessions, late }
+        // A dropped tunnel mostly loses Done and Data, so half of the lists hardly drop any on the way.
+        let drops = random.pick(&[25, 100, 1_000_000, 1_000_000]);
+        let (simulator, list) = (Simulator::new(), List::default());
+        Generator { random, simulator, topology, list, lowest, any, sessions, drops, late }
     }
 
     fn give_network(&mut self) {
@@ -130,12 +135,12 @@ impl Generator {
         }
     }
 
-    /// Drives every set-up to its end, in any order and with odd steps between, until no session has an active item: by the
-    /// ceiling there is an end, and what goes past it is for the test to see.
+    /// Drives every set-up to its end, in any order and with odd steps and drops between, until no session has an active
+    /// item: by the ceiling there is an end, and what goes past it is for the test to see.
     fn drive_to_ends(&mut self) {
         let most_steps = CEILING * *SESSIONS.end();
-        let most_odd_steps = most_steps;
-        for _ in 0..most_steps + most_odd_steps {
+        let most_others = most_steps;
+        for _ in 0..most_steps + most_others {
             let under_way: Vec<u64> = SESSIONS.filter(|&session| !self.simulator.active(session).is_empty()).collect();
             if under_way.is_empty() {
                 return;
@@ -143,6 +148,8 @@ impl Generator {
             let session = self.random.pick(&under_way);
             if self.random.one_in(20) {
                 self.step_oddly(session);
+            } else if self.random.one_in(self.drops) {
+                self.drop_tunnel(session);
             } else {
                 let item = self.random.pick(&self.simulator.active(session));
                 self.step(session, item);
@@ -180,14 +187,19 @@ impl Generator {
         self.go_on(session, send, steppable.first().copied());
     }
 
-    /// Sends, or steps the item. An idle session is opened; one with nothing to step sends or closes.
+    /// Sends, or steps the item, or now and then drops a tunnel. An idle session is opened; one with nothing to step sends,
+    /// drops or closes.
     fn go_on(&mut self, session: u64, send: bool, item: Option<u64>) {
         if !self.simulator.in_use(session) {
             self.open(session);
+        } else if self.random.one_in(self.drops) {
+            self.drop_tunnel(session);
         } else if let Some(item) = item.filter(|_| !send) {
             self.step(session, item);
         } else if !send && self.random.one_in(5) {
             self.close(session);
+        } else if !send && self.random.one_in(8) {
+            self.drop_tunnel(session);
         } else {
             self.send(session);
         }
@@ -206,7 +218,7 @@ impl Generator {
 
     fn anything(&mut self) {
         let session = 1 + self.random.below(8);
-        match self.random.below(23) {
+        match self.random.below(24) {
             0..=2 => self.open(session),
             3..=5 => self.step_oddly(session),
             6..=7 => self.send(session),
@@ -216,6 +228,7 @@ impl Generator {
             13..=15 => self.call("(net)"),
             16..=17 if self.late == LateNetwork::Yes => self.network_call(),
             18..=19 => self.edge_numbers(),
+            20 => self.drop_oddly(),
             _ => self.damage(),
         }
     }
@@ -267,6 +280,24 @@ impl Generator {
         self.call(format!("(close {session})"));
     }
 
+    /// Drops a tunnel that stands, or the newest establishment, which a set-up keeps busy, or any up to the next.
+    fn drop_tunnel(&mut self, session: u64) {
+        let tunnels = self.simulator.tunnels(session);
+        let begun = self.simulator.begun(session);
+        let establishment = match self.random.below(8) {
+            0..=2 if !tunnels.is_empty() => self.random.pick(&tunnels),
+            0..=6 => begun.max(1),
+            _ => 1 + self.random.below(begun + 1),
+        };
+        self.call(drop_form(session, establishment));
+    }
+
+    /// Drops any establishment of any session, in range or just outside.
+    fn drop_oddly(&mut self) {
+        let (session, establishment) = (self.random.below(10), self.random.below(10));
+        self.call(drop_form(session, establishment));
+    }
+
     fn network_call(&mut self) {
         let call = match self.random.below(5) {
             0..=1 => self.any_node(),
@@ -301,11 +332,12 @@ impl Generator {
             format!("(step {} {})", edge(), edge()),
             format!("(send {} {} {})", edge(), edge(), edge()),
             format!("(close {})", edge()),
+            drop_form(edge(), edge()),
             format!("(route {} {} {})", edge(), edge(), edge()),
             format!("(route {} {DEFAULT} {})", edge(), edge()),
             format!("(node {} host (has {} {}) (needs {}))", edge(), edge(), edge(), edge()),
         ];
-        let allowed = if self.late == LateNetwork::Yes { forms.len() } else { 4 };
+        let allowed = if self.late == LateNetwork::Yes { forms.len() } else { 5 };
         let form = self.random.index(allowed);
         self.call(&forms[form]);
     }
@@ -320,14 +352,19 @@ impl Generator {
             format!("(step {session} {})", self.simulator.last(session)),
             format!("(send {session} {} 77)", self.random.below(2)),
             format!("(close {session})"),
+            drop_form(session, 1 + self.random.below(8)),
             "(show)".to_string(),
             "(net)".to_string(),
             self.any_route(),
             self.any_node(),
         ];
-        let allowed = if self.late == LateNetwork::Yes { forms.len() } else { 6 };
+        let allowed = if self.late == LateNetwork::Yes { forms.len() } else { 7 };
         let form = self.random.index(allowed);
         let line = damaged(&mut self.random, &forms[form]);
         self.call(line);
     }
+}
+
+fn drop_form(session: u64, establishment: u64) -> String {
+    format!("(drop {session} {establishment})")
 }

@@ -9,7 +9,8 @@ use std::collections::{BTreeMap, BTreeSet};
 const LAST_WITH_ROOM: u64 = 999_998;
 const MOST_DATA: usize = 12;
 
-/// Refusals 1 to 13 by the words of document 01's table.
+/// Refusals 1 to 13 by the words of document 01's table, and those of a drop (#109). 14 and 15 belong to the join of two
+/// files (#106) and are not here.
 #[derive(Clone, Copy, Debug, PartialEq)]
 pub enum Refusal {
     Unreadable = 1,
@@ -25,6 +26,8 @@ pub enum Refusal {
     NoItem,
     Waiting,
     Full,
+    Busy = 16,
+    NoTunnel,
 }
 
 type Answer = Result<Vec<String>, Refusal>;
@@ -74,6 +77,18 @@ impl Simulator {
         self.set_up_steps.get(&session).copied().unwrap_or(0)
     }
 
+    /// How many establishments the session has begun.
+    pub fn begun(&self, session: u64) -> u64 {
+        self.sessions.get(&session).map_or(0, |session| session.begun)
+    }
+
+    /// The session's establishments that have rows.
+    pub fn tunnels(&self, session: u64) -> Vec<u64> {
+        let rows = self.sessions.get(&session).map(|session| &session.rows);
+        let establishments: BTreeSet<u64> = rows.into_iter().flatten().map(|row| row.establishment).collect();
+        establishments.into_iter().collect()
+    }
+
     /// The session's pending item of this number.
     pub fn item(&self, session: u64, number: u64) -> Option<&Item> {
         self.sessions.get(&session)?.items.get(&number)
@@ -103,6 +118,7 @@ impl Simulator {
             Form::Step { session, item } => self.step(session, item),
             Form::Send { session, side, tag } => self.send(session, side, tag),
             Form::Close { session } => self.close(session),
+            Form::Drop { session, establishment } => self.drop_tunnel(session, establishment),
             Form::Show => Ok(self.show()),
             Form::Net => Ok(self.network.forms()),
         }
@@ -170,6 +186,14 @@ impl Simulator {
 
     fn close(&mut self, number: u64) -> Answer {
         self.sessions.remove(&number).ok_or(Refusal::Idle)?;
+        one("(closed)")
+    }
+
+    /// It writes no item, so spent numbers do not matter.
+    fn drop_tunnel(&mut self, number: u64, establishment: u64) -> Answer {
+        let session = self.sessions.get_mut(&number).ok_or(Refusal::Idle)?;
+        refuse(session.items.values().any(|item| item.names(establishment)), Refusal::Busy)?;
+        refuse(!session.remove_rows(establishment), Refusal::NoTunnel)?;
         one("(closed)")
     }
 
