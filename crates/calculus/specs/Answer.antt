@@ -1,7 +1,7 @@
--- The number of each refusal and each loss, document 01's, and document 02's of a join. Assumes nothing.
+-- The number of each refusal and each loss, document 01's, and document 02's of a join and of a drop. Assumes nothing.
 use Prim.Native.Nat.{ℕ}
 use Rattle.calculus.specs.declared.answer.Refusal as refusal
-use Rattle.calculus.specs.declared.answer.Refusal.the-variants.{Short, Unreadable, Range, Double, Unknown, Late, Taken, Idle, Same, Gateway, Spent, NoItem, Waiting, Full, Clash, Unsorted}
+use Rattle.calculus.specs.declared.answer.Refusal.the-variants.{Short, Unreadable, Range, Double, Unknown, Late, Taken, Idle, Same, Gateway, Spent, NoItem, Waiting, Full, Clash, Unsorted, Busy, NoSuchTunnel}
 use Rattle.calculus.specs.declared.answer.Loss as loss
 use Rattle.calculus.specs.declared.answer.Loss.the-variants.{Unprotected, HopLimit, NoRoute, NoTunnel, WrongTunnel, Exhausted}
 
@@ -24,6 +24,9 @@ refusalNumber Full = 13
 -- document 02, #106
 refusalNumber Clash = 14
 refusalNumber Unsorted = 15
+-- #109: 17 is "no tunnel", which is a loss's name too
+refusalNumber Busy = 16
+refusalNumber NoSuchTunnel = 17
 
 -- the number after "lost" in the rules of a step
 abbrev pub lossNumber : loss.Loss → ℕ

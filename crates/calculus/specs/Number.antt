@@ -26,6 +26,10 @@ isSession = within 1 8
 abbrev pub isItem : ℕ → Bool
 isItem = within 1 1000000
 
+-- "establishments 1 to 8 are in range"
+abbrev pub isEstablishment : ℕ → Bool
+isEstablishment = within 1 8
+
 -- "Tag 0 to 4,294,967,295"
 abbrev pub isTag : ℕ → Bool
 isTag = within 0 4294967295

@@ -23,6 +23,9 @@ pub enum Refusal {
     // of a join, document 02's
     Clash,
     Unsorted,
+    // of a drop, document 02's
+    Busy,
+    NoSuchTunnel,
 }
 
 impl Refusal {
@@ -47,6 +50,8 @@ impl Refusal {
             Refusal::Full => 13,
             Refusal::Clash => 14,
             Refusal::Unsorted => 15,
+            Refusal::Busy => 16,
+            Refusal::NoSuchTunnel => 17,
         }
     }
 }

@@ -38,6 +38,13 @@ pub fn is_item(n: u64) -> bool
     within(n, 1, 1000000)
 }
 
+// Whether `n` is an establishment's number.
+pub fn is_establishment(n: u64) -> bool
+    ensures { λ r. ⌜ r ≡ spec.isEstablishment n ⌝ }
+{
+    within(n, 1, 8)
+}
+
 // Whether `n` is the tag of a Data.
 pub fn is_tag(n: u64) -> bool
     ensures { λ r. ⌜ r ≡ spec.isTag n ⌝ }

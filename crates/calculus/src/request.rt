@@ -40,6 +40,8 @@ pub enum Request {
     Step(SessionNumber, ItemNumber),
     Send(SessionNumber, Sender, u32),
     Close(SessionNumber),
+    // with the establishment's number
+    Drop(SessionNumber, u8),
     Show,
     Net,
 }

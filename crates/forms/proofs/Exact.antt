@@ -9,8 +9,8 @@ use borrow.Author.Tests.{le-leb, leb-true}
 use lib.Dec.{leb}
 use lib.ListN.{length, drop, length-append}
 use Rattle.forms.specs.Bytes.{bytes}
-use Rattle.forms.specs.Text.{Form, node, route, «open», step, send, close, show, net, listText, text, numbers}
-use Rattle.forms.specs.Read.{starts, fields, formWith, routeWith, openWith, stepWith, sendWith, closeWith, showWith, netWith, plainForm, formOf, read}
+use Rattle.forms.specs.Text.{Form, node, route, «open», step, send, close, show, net, takeDown, listText, text, numbers}
+use Rattle.forms.specs.Read.{starts, fields, formWith, routeWith, openWith, stepWith, sendWith, closeWith, showWith, netWith, takeDownWith, plainForm, formOf, read}
 use Rattle.forms.specs.Held.{firsts}
 use Rattle.forms.specs.Exact.{Digits, IsForm, ReadsExactly}
 use Rattle.forms.proofs.Ways.{cond-way, nothing, some-same}
@@ -46,7 +46,8 @@ module _ (most room : ℕ) (f : Form) (l : List ℕ) where
       (numbers-sound (bytes "(send") 3 sendWith _ (omega arith) (λ ns. (refl, refl))
       (numbers-sound (bytes "(close") 1 closeWith _ (omega arith) (λ ns. (refl, refl))
       (numbers-sound (bytes "(show") 0 showWith _ (omega arith) (λ ns. (refl, refl))
-      (numbers-sound (bytes "(net") 0 netWith _ (omega arith) (λ ns. (refl, refl)) nothing)))))))
+      (numbers-sound (bytes "(net") 0 netWith _ (omega arith) (λ ns. (refl, refl))
+      (numbers-sound (bytes "(drop") 2 takeDownWith _ (omega arith) (λ ns. (refl, refl)) nothing))))))))
 
 -- ---- what is written is read
 
@@ -60,6 +61,7 @@ form-complete most room (send u w t) h d = ap (formWith sendWith) (fields-comple
 form-complete most room (close u) h d = ap (formWith closeWith) (fields-complete most 1 (u ∷ []) refl (omega arith) d)
 form-complete most room show h d = ap (formWith showWith) (fields-complete most 0 [] refl (omega arith) d)
 form-complete most room net h d = ap (formWith netWith) (fields-complete most 0 [] refl (omega arith) d)
+form-complete most room (takeDown u e) h d = ap (formWith takeDownWith) (fields-complete most 2 (u ∷ e ∷ []) refl (omega arith) d)
 
 -- no number is longer than its form
 form-digits : (most : ℕ) (f : Form) → length (text f) ≤ most → Digits most (numbers f)
@@ -74,6 +76,7 @@ form-digits most (send u w t) h = list-digits most (u ∷ w ∷ t ∷ []) (omega
 form-digits most (close u) h = list-digits most (u ∷ []) (omega arith)
 form-digits most show h = tt
 form-digits most net h = tt
+form-digits most (takeDown u e) h = list-digits most (u ∷ e ∷ []) (omega arith)
 
 -- ---- the theorem
 

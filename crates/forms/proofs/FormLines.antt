@@ -11,7 +11,7 @@ use Rattle.calculus.proofs.Tests.{both, either}
 use Rattle.calculus.specs.declared.network.Kind.{Kind}
 use Rattle.calculus.specs.declared.network.Kind.the-variants.{Host, Gateway}
 use Rattle.forms.specs.Bytes.{bytes, decimal, digitsOf, joined}
-use Rattle.forms.specs.Text.{Form, node, route, «open», step, send, close, show, net, listText, kindText, text, formLine}
+use Rattle.forms.specs.Text.{Form, node, route, «open», step, send, close, show, net, takeDown, listText, kindText, text, formLine}
 use Rattle.forms.specs.Line.{lineLength, lines, withFirst}
 
 -- no byte of l is a newline
@@ -60,6 +60,7 @@ text-line (send u w t) = list-line (u ∷ w ∷ t ∷ [])
 text-line (close u) = list-line (u ∷ [])
 text-line show = list-line []
 text-line net = list-line []
+text-line (takeDown u e) = list-line (u ∷ e ∷ [])
 
 -- ---- lines
 

@@ -10,7 +10,7 @@ use Rattle.calculus.specs.declared.network.Kind.the-variants.{Host, Gateway}
 use Rattle.forms.specs.declared.scan.Number.{Number}
 use Rattle.forms.specs.declared.scan.Number.the-variants.{Found, Missing}
 use Rattle.forms.specs.Bytes.{bytes}
-use Rattle.forms.specs.Text.{Form, node, route, «open», step, send, close, show, net}
+use Rattle.forms.specs.Text.{Form, node, route, «open», step, send, close, show, net, takeDown}
 
 -- l begins with w
 unfoldable pub starts : List ℕ → List ℕ → Bool
@@ -91,6 +91,9 @@ showWith ns = show
 abbrev pub netWith : List ℕ → Form
 netWith ns = net
 
+abbrev pub takeDownWith : List ℕ → Form
+takeDownWith ns = takeDown (getD ns 0 0) (getD ns 1 0)
+
 -- l is w
 abbrev pub isText : List ℕ → List ℕ → Bool
 isText w l = starts w l && eqb (length l) (length w)
@@ -135,7 +138,8 @@ plainForm most l =
     (cond (starts (bytes "(send") l) (formWith sendWith (fields most 3 (drop 5 l)))
     (cond (starts (bytes "(close") l) (formWith closeWith (fields most 1 (drop 6 l)))
     (cond (starts (bytes "(show") l) (formWith showWith (fields most 0 (drop 5 l)))
-    (cond (starts (bytes "(net") l) (formWith netWith (fields most 0 (drop 4 l))) none))))))
+    (cond (starts (bytes "(net") l) (formWith netWith (fields most 0 (drop 4 l)))
+    (cond (starts (bytes "(drop") l) (formWith takeDownWith (fields most 2 (drop 5 l))) none)))))))
 
 -- the form that l is, with numbers of at most `most` digits and lists of at most `room` credentials
 unfoldable pub formOf : ℕ → ℕ → List ℕ → Option Form

@@ -4,16 +4,16 @@ use mathlib.Core.Bool.{Bool, true, false, cond, _&&_}
 use mathlib.Core.List.{List, [], _∷_}
 use mathlib.Core.Option.{Option, none, some}
 use lib.ListN.{set, replicate}
-use Rattle.calculus.specs.Number.{within, isNode, isDestination, isSession, isItem, isTag, senderOf}
+use Rattle.calculus.specs.Number.{within, isNode, isDestination, isSession, isItem, isEstablishment, isTag, senderOf}
 use Rattle.calculus.specs.Table.{entriesFrom, onlyIf}
 use Rattle.calculus.specs.declared.answer.Refusal.the-variants.{Unreadable, Range}
 use Rattle.calculus.specs.declared.network.Kind.{Kind}
 use Rattle.calculus.specs.declared.request.Request as request
-use Rattle.calculus.specs.declared.request.Request.the-variants.{Node, Route, Open, Step, Send, Close, Show, Net}
+use Rattle.calculus.specs.declared.request.Request.the-variants.{Node, Route, Open, Step, Send, Close, Show, Net, Drop}
 use Rattle.forms.specs.declared.read.Parsed.{Parsed}
 use Rattle.forms.specs.declared.read.Parsed.the-variants.{Asks, Refused}
 use Rattle.forms.specs.declared.read.Reading.{Reading}
-use Rattle.forms.specs.Text.{Form, node, route, «open», step, send, close, show, net}
+use Rattle.forms.specs.Text.{Form, node, route, «open», step, send, close, show, net, takeDown}
 
 -- "credentials 0 to 63", strictly rising, the first at least `least`
 abbrev pub rising : ℕ → List ℕ → Bool
@@ -58,6 +58,7 @@ reading (send u w t) = plain (inRange (isSession u && (within 0 1 w && isTag t))
 reading (close u) = plain (inRange (isSession u) (Close (record { 0 = u })))
 reading show = plain (Asks Show)
 reading net = plain (Asks Net)
+reading (takeDown u e) = plain (inRange (isSession u && isEstablishment e) (Drop (record { 0 = u }) e))
 
 -- what a line asks: where it is no form, refusal 1
 abbrev pub asked : Option Form → Reading

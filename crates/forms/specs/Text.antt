@@ -15,6 +15,8 @@ pub data Form : Type 0 where
   close : ℕ → Form
   show : Form
   net : Form
+  -- `(drop u e)`; `drop` is a library's name
+  takeDown : ℕ → ℕ → Form
 
 -- a number behind a space
 abbrev pub numberText : ℕ → List ℕ
@@ -41,6 +43,7 @@ text (send u w t) = bytes "(send" ++ listText (u ∷ w ∷ t ∷ [])
 text (close u) = bytes "(close" ++ listText (u ∷ [])
 text show = bytes "(show" ++ listText []
 text net = bytes "(net" ++ listText []
+text (takeDown u e) = bytes "(drop" ++ listText (u ∷ e ∷ [])
 
 -- the numbers of a form
 abbrev pub numbers : Form → List ℕ
@@ -52,6 +55,7 @@ numbers (send u w t) = u ∷ w ∷ t ∷ []
 numbers (close u) = u ∷ []
 numbers show = []
 numbers net = []
+numbers (takeDown u e) = u ∷ e ∷ []
 
 -- a form's line, with its newline
 abbrev pub formLine : Form → List ℕ

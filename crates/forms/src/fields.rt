@@ -8,6 +8,7 @@ use calculus::answer::Refusal;
 use calculus::number::ItemNumber;
 use calculus::number::SessionNumber;
 use calculus::number::is_destination;
+use calculus::number::is_establishment;
 use calculus::number::is_item;
 use calculus::number::is_node;
 use calculus::number::is_session;
@@ -143,6 +144,22 @@ pub fn close_at(s: &[u8]) -> Reading
         let session = f.values[0];
         if is_session(session) {
             return asks(Request::Close(SessionNumber(session as u8)));
+        }
+        return refused(Refusal::Range);
+    }
+    refused(Refusal::Unreadable)
+}
+
+// What stands behind `(drop` asks.
+pub fn drop_at(s: &[u8]) -> Reading
+    ensures { λ r. ⌜ r ≡ asked (spec.formWith spec.takeDownWith (spec.fields 10 2 (now (s .entry)))) ⌝ }
+{
+    let f = read_fields(s, 2);
+    if f.ok {
+        let session = f.values[0];
+        let establishment = f.values[1];
+        if both(is_session(session), is_establishment(establishment)) {
+            return asks(Request::Drop(SessionNumber(session as u8), establishment as u8));
         }
         return refused(Refusal::Range);
     }

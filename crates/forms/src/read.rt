@@ -1,6 +1,7 @@
 // A line read as a form.
 use crate::fields::bare_at;
 use crate::fields::close_at;
+use crate::fields::drop_at;
 use crate::fields::open_at;
 use crate::fields::route_at;
 use crate::fields::send_at;
@@ -51,6 +52,9 @@ fn read_plain(s: &[u8]) -> Reading
     }
     if starts(s, b"(net") {
         return bare_at(&s[4..], Request::Net);
+    }
+    if starts(s, b"(drop") {
+        return drop_at(&s[5..]);
     }
     refused(Refusal::Unreadable)
 }

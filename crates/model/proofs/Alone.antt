@@ -16,7 +16,8 @@ use Rattle.model.proofs.Parts.{Numbered}
 use Rattle.model.proofs.Counted.{Good}
 use Rattle.model.proofs.Local.{Seen, seen, local, call-own}
 use Rattle.model.proofs.Replies.{call-good, call-others, call-network}
-use Rattle.model.proofs.Numbers.{up-append, Issued, issued-none, local-issues}
+use Rattle.model.proofs.Lists.{up-append}
+use Rattle.model.proofs.Numbers.{Issued, issued-none, local-issues}
 
 -- ---- a session's calls by themselves
 

@@ -6,23 +6,23 @@ use mathlib.Core.Option.{Option, none, some}
 use Prim.Native.Nat.{ℕ}
 use lib.Dec.{eqb}
 use lib.ListN.{length, set, length-set}
-use Rattle.calculus.specs.Number.{isNode, isDestination, within, isSession, isItem, isTag, senderOf}
+use Rattle.calculus.specs.Number.{isNode, isDestination, within, isSession, isItem, isEstablishment, isTag, senderOf}
 use Rattle.calculus.proofs.Tests.{both, never, either}
 use Rattle.calculus.specs.declared.answer.Refusal.{Refusal}
 use Rattle.calculus.specs.declared.answer.Refusal.the-variants.{Unreadable, Range}
 use Rattle.calculus.specs.declared.network.Kind.{Kind}
 use Rattle.calculus.specs.declared.network.Network.{Network}
 use Rattle.calculus.specs.declared.request.Request as request
-use Rattle.calculus.specs.declared.request.Request.the-variants.{Node, Route, Open, Step, Send, Close, Show, Net}
+use Rattle.calculus.specs.declared.request.Request.the-variants.{Node, Route, Open, Step, Send, Close, Show, Net, Drop}
 use Rattle.calculus.specs.declared.request.Sender.{Sender}
 use Rattle.calculus.specs.declared.state.Part.{Part}
 use Rattle.calculus.specs.declared.state.State.{State}
 use Rattle.forms.specs.declared.read.Parsed.the-variants.{Asks, Refused}
 use Rattle.forms.specs.declared.read.Reading.{Reading}
-use Rattle.forms.specs.Text.{Form, node, route, «open», step, send, close, show, net}
+use Rattle.forms.specs.Text.{Form, node, route, «open», step, send, close, show, net, takeDown}
 use Rattle.forms.specs.Request.{rising, holding, noCredentials, inRange, plain, reading, asked}
 use Rattle.model.specs.Row.{stands}
-use Rattle.model.specs.Requests.{Move, refuse, openMove, stepMove, sendMove, closeMove, performed}
+use Rattle.model.specs.Requests.{Move, refuse, openMove, stepMove, sendMove, closeMove, dropMove, performed}
 use Rattle.model.specs.State.{load}
 use Rattle.model.proofs.Checks.{IsWritten}
 use Rattle.model.specs.Calls.{oneAnswer, requested, formGivesNetwork, formNames}
@@ -37,6 +37,7 @@ sessionIn (Send u w tag) = u .0
 sessionIn (Close u) = u .0
 sessionIn Show = 0
 sessionIn Net = 0
+sessionIn (Drop u e) = u .0
 
 -- the move of a session's request; other requests have none
 abbrev pub ownMove : Network → (ℕ → ℕ → Bool) → request.Request → Part → Move
@@ -48,19 +49,21 @@ ownMove n standing (Send u w tag) t = sendMove w tag t
 ownMove n standing (Close u) t = closeMove t
 ownMove n standing Show t = refuse Unreadable
 ownMove n standing Net t = refuse Unreadable
+ownMove n standing (Drop u e) t = dropMove e t
 
 -- what holds of every request's move
 pub own-cases : (P : Move → Type 0) (n : Network) (standing : ℕ → ℕ → Bool) (q : request.Request) (t : Part) → P (refuse Unreadable)
     → ((c d : ℕ) → P (openMove n c d t)) → ((k : ℕ) → P (stepMove n standing k t)) → ((w : Sender) (tag : ℕ) → P (sendMove w tag t)) → P (closeMove t)
-    → P (ownMove n standing q t)
-own-cases P n standing (Node a k) t other opens steps sends closes = other
-own-cases P n standing (Route a b next) t other opens steps sends closes = other
-own-cases P n standing (Open u c d) t other opens steps sends closes = opens c d
-own-cases P n standing (Step u k) t other opens steps sends closes = steps (k .0)
-own-cases P n standing (Send u w tag) t other opens steps sends closes = sends w tag
-own-cases P n standing (Close u) t other opens steps sends closes = closes
-own-cases P n standing Show t other opens steps sends closes = other
-own-cases P n standing Net t other opens steps sends closes = other
+    → ((e : ℕ) → P (dropMove e t)) → P (ownMove n standing q t)
+own-cases P n standing (Node a k) t other opens steps sends closes drops = other
+own-cases P n standing (Route a b next) t other opens steps sends closes drops = other
+own-cases P n standing (Open u c d) t other opens steps sends closes drops = opens c d
+own-cases P n standing (Step u k) t other opens steps sends closes drops = steps (k .0)
+own-cases P n standing (Send u w tag) t other opens steps sends closes drops = sends w tag
+own-cases P n standing (Close u) t other opens steps sends closes drops = closes
+own-cases P n standing Show t other opens steps sends closes drops = other
+own-cases P n standing Net t other opens steps sends closes drops = other
+own-cases P n standing (Drop u e) t other opens steps sends closes drops = drops e
 
 -- the move that session u's request makes
 abbrev pub moveIn : State → ℕ → request.Request → Move
@@ -77,6 +80,7 @@ requested-own s x y (Send u w tag) e = refl
 requested-own s x y (Close u) e = refl
 requested-own s x y Show e = never e
 requested-own s x y Net e = never e
+requested-own s x y (Drop u k) e = refl
 
 -- a line that gives the network names no session
 pub not-own : (u : ℕ) (o : Option Form) → formGivesNetwork o ≡ true → formNames u o ≡ false
@@ -89,6 +93,7 @@ not-own u (some (send v w tag)) e = never e
 not-own u (some (close v)) e = never e
 not-own u (some show) e = refl
 not-own u (some net) e = refl
+not-own u (some (takeDown v k)) e = never e
 
 -- a set of credentials
 abbrev pub IsSet : List Bool → Type 0
@@ -130,6 +135,8 @@ meaning-form (send u w tag) =
 meaning-form (close u) = ranged (isSession u) _ (λ e. ofSession (Close (record { 0 = u })) e (λ v. refl))
 meaning-form show = shows (λ u. refl)
 meaning-form net = givesBack (λ u. refl)
+meaning-form (takeDown u e) =
+    ranged (isSession u && isEstablishment e) _ (λ k. ofSession (Drop (record { 0 = u }) e) (both (isSession u) _ k .0) (λ v. refl))
 
 pub meaning : (o : Option Form) → Meaning o (asked o)
 meaning none = refuses Unreadable refl

@@ -1,9 +1,9 @@
 -- What each rule does to the weights of a set-up: the waits, the places, the Data items, the items that are neither, and the rows to
 -- come; and what it begins. Assumes nothing.
-use mathlib.Core.Path.{sym, subst, ap}
+use mathlib.Core.Path.{_≡_, sym, subst, ap}
 use mathlib.Core.Bool.{Bool, true, not, _&&_}
 use mathlib.Core.List.{List}
-use Prim.Native.Nat.{ℕ, _+_, _-_, _*_, _≤_}
+use Prim.Native.Nat.{ℕ, _+_, _-_, _*_, _≤_, _<_}
 use native.Mathlib.Omega.{arith}
 use lib.Dec.{eqb}
 use lib.ListN.{length}
@@ -27,13 +27,13 @@ use Rattle.calculus.specs.declared.state.Part.{Part}
 use Rattle.model.specs.Network.{isGateway, nextHop, hasAllNeeded}
 use Rattle.model.specs.Packet.{target, noHopsLeft, fewer, isData}
 use Rattle.model.specs.Row.{held}
-use Rattle.model.specs.Rules.{writesFor, discovers, isExhausted, unprotected, onward, wireRule, created, outRule, admitted, matched, received, upRule, estRule, authRule, grantRule, ackRule, rule}
+use Rattle.model.specs.Rules.{writesFor, discovers, lastPoint, isExhausted, begin, unprotected, onward, wireRule, created, outRule, admitted, matched, received, upRule, estRule, authRule, grantRule, ackRule, rule}
 use Rattle.model.specs.State.{writtenCount, stageAfter, begunAfter, addedRows}
-use Rattle.model.specs.SetUp.{isPending}
+use Rattle.model.specs.SetUp.{isPending, isGrant}
 use Rattle.model.proofs.Checks.{one}
 use Rattle.model.proofs.Discovers.{discovers-disc, not-exhausted}
 use Rattle.model.proofs.Weights.{count, weighOut, weighWait}
-use Rattle.model.proofs.SetUpWeights.{waits, uses, space, carries, active, due, spare, packetSpace, Wanted, wanted}
+use Rattle.model.proofs.SetUpWeights.{waits, uses, space, carries, active, due, rowsOf, begunOf, spare, packetSpace, Wanted, wanted, begun-next}
 
 -- ---- the rules
 
@@ -47,9 +47,11 @@ pub record Law (s : Session) (i : Item) (f : Effect) : Type 0 where
   pub actives : weighOut active (f .outcome) ≤ active i
   pub stage : spare (stageAfter (s .stage) (f .outcome)) ≤ spare (s .stage)
   pub begun : begunAfter (s .begun) (f .begins) - 8 ≤ s .begun - 8
-  pub rows : weighOut due (f .outcome) + length (addedRows (f .added)) + 4 * (8 - begunAfter (s .begun) (f .begins)) ≤ due i + 4 * (8 - s .begun)
-  -- Data adds no rows and begins nothing
-  pub adds : length (addedRows (f .added)) ≤ 2 * active i
+  -- of any establishments, those that w holds of: each that begins has 4 rows to come
+  pub rows : (w : ℕ → Bool) → weighOut (due w) (f .outcome) + rowsOf w (addedRows (f .added)) + 4 * begunOf w (s .begun)
+      ≤ due w i + 4 * begunOf w (begunAfter (s .begun) (f .begins))
+  -- only a grant adds rows, and Data begins nothing
+  pub adds : length (addedRows (f .added)) ≤ 2 * count isGrant i
   pub begins : (s .begun ≤ begunAfter (s .begun) (f .begins)) × (begunAfter (s .begun) (f .begins) ≤ s .begun + active i)
 
 onward-law : (next : NextHop) (s : Session) (a : ℕ) (p : Packet) → Law s (Wire a p) (onward next (fewer p))
@@ -58,15 +60,33 @@ onward-law (Exact next) s a p = omega arith
 onward-law (Default next) s a p = omega arith
 onward-law Missing s a p = omega arith
 
+-- a Disc that begins an establishment
+begin-law : (s : Session) (a : ℕ) (p : Packet) → p .payload ≡ Disc (lastPoint (p .payload)) → s .begun < 8
+    → Law s (Wire a p) (begin a (lastPoint (p .payload)) (s .begun + 1))
+unfolding uses space carries active due
+begin-law s a p x b =
+    let i : active (Wire a p) ≡ 1 = ap (λ (y : Payload). one (not (isData y) && true)) x in
+    record {
+      wants = tt;
+      writes = omega arith;
+      waits = λ v. omega arith;
+      places = omega (arith, ap packetSpace x);
+      tags = omega arith;
+      actives = omega (arith, i);
+      stage = omega arith;
+      begun = omega (arith, b);
+      rows = λ w. omega (arith, begun-next w (s .begun));
+      adds = omega arith;
+      begins = omega (arith, i);
+    }
+
 wire-law : (gateway : Bool) (look : ℕ → NextHop) (s : Session) (a : ℕ) (p : Packet) → Law s (Wire a p) (wireRule gateway look s a p)
 unfolding uses space carries active due wireRule
 wire-law gateway look s a p =
     let P = Law s (Wire a p) in
     either P (discovers gateway (s .server) a (p .payload))
     (λ k. either P (isExhausted s) (λ e. omega arith)
-    (λ e.
-    let x = discovers-disc gateway (s .server) a (p .payload) k in
-    omega (arith, ap packetSpace x, ap (λ (y : Payload). one (not (isData y) && true)) x, not-exhausted s e)))
+    (λ e. begin-law s a p (discovers-disc gateway (s .server) a (p .payload) k) (not-exhausted s e)))
     (λ e. either P (eqb a (target p)) (λ e. omega arith)
     (λ e. either P (unprotected gateway p) (λ e. omega arith)
     (λ e. either P (noHopsLeft p) (λ e. omega arith) (λ e. onward-law (look (target p)) s a p))))

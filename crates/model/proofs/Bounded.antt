@@ -8,7 +8,7 @@ use native.Mathlib.Omega.{arith}
 use lib.Dec.{ltb}
 use borrow.Author.Tests.{eqb-false, leb-false, not-false}
 use Rattle.calculus.proofs.Tests.{Way, is, isnt, way, never, neither, not-so, either}
-use Rattle.calculus.specs.Number.{within, isNode, isDestination, isSession, isItem, isTag}
+use Rattle.calculus.specs.Number.{within, isNode, isDestination, isSession, isItem, isEstablishment, isTag}
 use Rattle.calculus.specs.declared.network.Network.{Network}
 use Rattle.calculus.specs.declared.packet.Payload.the-variants.{Disc}
 use Rattle.calculus.specs.declared.packet.Item.the-variants.{Wire}
@@ -16,21 +16,23 @@ use Rattle.calculus.specs.declared.request.Sender.{Sender}
 use Rattle.calculus.specs.declared.state.Part.{Part}
 use Rattle.calculus.specs.declared.state.State.{State}
 use Rattle.forms.specs.declared.read.Reading.{Reading}
-use Rattle.forms.specs.Text.{Form, node, route, «open», step, send, close, show, net}
+use Rattle.forms.specs.Text.{Form, node, route, «open», step, send, close, show, net, takeDown}
 use Rattle.forms.specs.Read.{read}
 use Rattle.forms.specs.Request.{rising, asked}
 use Rattle.model.specs.Lists.{place}
 use Rattle.model.specs.Network.{isGateway}
 use Rattle.model.specs.Packet.{hopLimit, bare}
-use Rattle.model.specs.Row.{areNodes}
+use Rattle.model.specs.Row.{held, isOther, areNodes}
 use Rattle.model.specs.Rules.{rule}
 use Rattle.model.specs.State.{fresh, load, isNumbered}
-use Rattle.model.specs.Requests.{Move, refuse, unused, nextNumber, opening, openMove, stepped, stepAt, stepMove, sending, sendMove, closing, closeMove}
-use Rattle.model.specs.Calls.{Call, call, after, isOwn, givesNetwork}
+use Rattle.model.specs.Requests.{Move, refuse, unused, nextNumber, opening, openMove, stepped, stepAt, stepMove, sending, sendMove, closing, closeMove, dropping, dropMove}
+use Rattle.model.specs.Calls.{Call, call, isAccepted, after, isOwn, givesNetwork}
 use Rattle.model.specs.SetUp.{isSetUpItem, itemAt}
-use Rattle.model.specs.Termination.{ceiling, isAccepted, formCount, callCount, setUpSteps}
+use Rattle.model.specs.Termination.{ceiling, formCount, callCount, setUpSteps}
 use Rattle.model.proofs.Checks.{checked-either}
+use Rattle.model.proofs.Lists.{all-those}
 use Rattle.model.proofs.Parts.{Numbered}
+use Rattle.model.proofs.Moves.{held-dropping}
 use Rattle.model.proofs.Asked.{not-own}
 use Rattle.model.proofs.Sane.{Sane, all-put, all-unused, sane-empty}
 use Rattle.model.proofs.Points.{points, points-next}
@@ -109,6 +111,13 @@ module _ (network : Network) (t : Part) (h : Sane t) (n : ℕ) (k : Tracked netw
       checked-either (λ (m : Move). Counts network n n (seenMove t m)) refuse (λ r. k) _
       (λ e. unused-tracked network _ (sane-empty (t .session .last .0) (h .last)) refl n (k .few))
 
+  -- items and rows are apart, so that rows may go
+  counts-drop : (e : ℕ) → Counts network n n (seenMove t (dropMove e t))
+  unfolding dropMove dropping
+  counts-drop e =
+      checked-either (λ (m : Move). Counts network n n (seenMove t m)) refuse (λ r. k) _
+      (λ w. record { few = k .few; items = k .items; rows = rw (held-dropping e t (h .roomy .whole)) (all-those _ (isOther e) (held t) (k .rows)) })
+
   -- ---- a line
 
   counts-line : (o : Option Form) → Counts network n (formCount (t .items) n o) (seenParsed network t (asked o .parsed))
@@ -121,6 +130,7 @@ module _ (network : Network) (t : Part) (h : Sane t) (n : ℕ) (k : Tracked netw
   counts-line (some (close u)) = ranged-seen (Counts network n n) network t k (isSession u) _ counts-close
   counts-line (some show) = k
   counts-line (some net) = k
+  counts-line (some (takeDown u e)) = ranged-seen (Counts network n n) network t k (isSession u && isEstablishment e) _ (counts-drop e)
   counts-line none = k
 
   counts-local : (c : Call) → Counts network n (formCount (t .items) n (read (c .line))) (local network t c)

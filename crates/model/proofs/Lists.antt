@@ -1,11 +1,14 @@
--- What holds of every element of a list, where one is found, and the front of a list after a run of stores. Assumes nothing.
+-- What holds of every element of a list, where one is found, how many are, those that a test holds of, numbers that rise, and the front
+-- of a list after a run of stores. Assumes nothing.
 use mathlib.Core.Path.{_≡_, refl, ap, _∙_}
-use mathlib.Core.Bool.{Bool, true, false, cond}
+use mathlib.Core.Bool.{Bool, true, false, cond, not}
 use mathlib.Core.List.{List, [], _∷_, _++_}
 use Prim.Native.Nat.{ℕ, zero, suc, _+_, _≤_, _<_}
+use native.Mathlib.Nat.{zero-add, add-zero}
 use native.Mathlib.Omega.{arith}
 use lib.ListN.{length, getD, set, take, drop, replicate, length-append}
-use Rattle.model.specs.Lists.{place, tally, All}
+use Rattle.calculus.proofs.Tests.{either}
+use Rattle.model.specs.Lists.{place, tally, those, All, upFrom}
 use Rattle.model.proofs.Checks.{one}
 use lib.Seq.{sets, sets-eq, take-at, length-take-le}
 
@@ -46,6 +49,10 @@ module _ {A : Type 0} (P : A → Type 0) where
   all-take (suc n) [] h = tt
   all-take (suc n) (y ∷ l) h = (h .0, all-take n l (h .1))
 
+  all-each : ((x : A) → P x) → (l : List A) → All P l
+  all-each f [] = tt
+  all-each f (x ∷ l) = (f x, all-each f l)
+
   pub all-replicate : (n : ℕ) (x : A) → P x → All P (replicate n x)
   all-replicate zero x k = tt
   all-replicate (suc n) x k = (k, all-replicate n x k)
@@ -70,6 +77,67 @@ module _ {A : Type 0} (f : A → Bool) where
   tally-none [] h = refl
   tally-none (x ∷ l) h = rw (h .0) (omega (arith, tally-none l (h .1)))
 
+  pub tally-all : (l : List A) → All (λ x. f x ≡ true) l → tally f l ≡ length l
+  tally-all [] h = refl
+  tally-all (x ∷ l) h = rw (h .0) (omega (arith, tally-all l (h .1)))
+
+  pub tally-append : (l m : List A) → tally f (l ++ m) ≡ tally f l + tally f m
+  tally-append [] m = omega arith
+  tally-append (x ∷ l) m = omega (arith, tally-append l m)
+
+  pub tally-take : (n : ℕ) (l : List A) → tally f (take n l) ≤ tally f l
+  tally-take zero l = omega arith
+  tally-take (suc n) [] = omega arith
+  tally-take (suc n) (x ∷ l) = omega (arith, tally-take n l)
+
+pub tally-each : {A : Type 0} (l : List A) → tally (λ x. true) l ≡ length l
+tally-each l = tally-all (λ x. true) l (all-each _ (λ x. refl) l)
+
+-- ---- those that a test holds of
+
+pub all-those : {A : Type 0} (P : A → Type 0) (f : A → Bool) (l : List A) → All P l → All P (those f l)
+all-those P f [] h = tt
+all-those P f (x ∷ l) h =
+    let k = all-those P f l (h .1) in
+    either (All P) (f x) (λ e. (h .0, k)) (λ e. k)
+
+module _ {A : Type 0} (f : A → Bool) where
+  pub those-length : (l : List A) → length (those f l) ≤ length l
+  those-length [] = omega arith
+  those-length (x ∷ l) =
+      let k = those-length l in
+      either (λ (m : List A). length m ≤ suc (length l)) (f x) (λ e. omega arith) (λ e. omega arith)
+
+  pub those-append : (l m : List A) → those f (l ++ m) ≡ those f l ++ those f m
+  those-append [] m = refl
+  those-append (x ∷ l) m = go (f x) (those-append l m)
+    where
+      go : (b : Bool) → those f (l ++ m) ≡ those f l ++ those f m
+          → cond b (x ∷ those f (l ++ m)) (those f (l ++ m)) ≡ cond b (x ∷ those f l) (those f l) ++ those f m
+      go true e = ap (λ (k : List A). x ∷ k) e
+      go false e = e
+
+  pub those-all : (l : List A) → All (λ x. f x ≡ true) l → those f l ≡ l
+  those-all [] h = refl
+  those-all (x ∷ l) h = rw (h .0) (ap (λ (k : List A). x ∷ k) (those-all l (h .1)))
+
+  pub those-none : (l : List A) → All (λ x. f x ≡ false) l → those f l ≡ []
+  those-none [] h = refl
+  those-none (x ∷ l) h = rw (h .0) (those-none l (h .1))
+
+  -- those that it holds of, and the others, are all
+  pub tally-split : (g : A → Bool) (l : List A) → tally g (those f l) + tally g (those (λ x. not (f x)) l) ≡ tally g l
+  tally-split g [] = refl
+  tally-split g (x ∷ l) = go (f x) (tally-split g l)
+    where
+      others : List A
+      others = those (λ x. not (f x)) l
+
+      go : (b : Bool) → tally g (those f l) + tally g others ≡ tally g l
+          → tally g (cond b (x ∷ those f l) (those f l)) + tally g (cond (not b) (x ∷ others) others) ≡ tally g (x ∷ l)
+      go true e = omega arith
+      go false e = omega arith
+
 module _ {A : Type 0} (f : A → Bool) (d : A) where
   pub tally-at : (l : List A) (at : ℕ) → at < length l → f (getD l at d) ≡ true → 1 ≤ tally f l
   tally-at [] at h e = absurd (omega arith)
@@ -85,6 +153,23 @@ module _ {A : Type 0} (f : A → Bool) (d : A) where
       go : (b : Bool) → one b + tally f l ≤ 1 → (tally f l ≤ 1 → place f l ≡ at) → cond b 0 (suc (place f l)) ≡ suc at
       go true m g = absurd (omega (arith, tally-at l at (omega arith) e))
       go false m g = ap suc (g (omega arith))
+
+-- ---- numbers that rise
+
+pub up-append : (n j k : ℕ) → upFrom n (j + k) ≡ upFrom n j ++ upFrom (n + j) k
+unfolding upFrom
+up-append n zero k = rw (zero-add, add-zero)
+up-append n (suc j) k =
+    let e : suc j + k ≡ suc (j + k) = omega arith in
+    let f : n + suc j ≡ n + 1 + j = omega arith in
+    rw (e, f) (ap (λ (l : List ℕ). (n + 1) ∷ l) (up-append (n + 1) j k))
+
+pub up-length : (n k : ℕ) → length (upFrom n k) ≡ k
+unfolding upFrom
+up-length n zero = refl
+up-length n (suc k) = omega (arith, up-length (n + 1) k)
+
+-- ---- stores
 
 -- the front, and then what was stored after it
 pub take-sets : {A : Type 0} (l vs : List A) (n : ℕ) → n + length vs ≤ length l → take (n + length vs) (sets l n vs) ≡ take n l ++ vs

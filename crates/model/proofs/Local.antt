@@ -16,7 +16,7 @@ use Rattle.calculus.specs.declared.packet.Header.{Header}
 use Rattle.calculus.specs.declared.packet.Item.{Item}
 use Rattle.calculus.specs.declared.packet.Item.the-variants.{Free, Wire, Out, Up, Est, Auth, Grant, Ack, Dwait, Ewait}
 use Rattle.calculus.specs.declared.request.Request as request
-use Rattle.calculus.specs.declared.request.Request.the-variants.{Node, Route, Open, Step, Send, Close, Show, Net}
+use Rattle.calculus.specs.declared.request.Request.the-variants.{Node, Route, Open, Step, Send, Close, Show, Net, Drop}
 use Rattle.calculus.specs.declared.state.Part.{Part}
 use Rattle.calculus.specs.declared.state.State.{State}
 use Rattle.forms.specs.declared.read.Parsed.{Parsed}
@@ -33,7 +33,7 @@ use Rattle.model.specs.Requests.{Move, refuse, moved, stepAt, stepMove, 
 use Rattle.model.specs.Calls.{Lines, answer, report, Reply, Call, call, answered, repliedTo, refusalIn, oneAnswer, short, formNames, isOwn}
 use Rattle.model.proofs.Parts.{Numbered, load-whole}
 use Rattle.model.proofs.Users.{admits-some}
-use Rattle.model.proofs.Moves.{FairMove, fair-open, fair-step, fair-send, fair-close}
+use Rattle.model.proofs.Moves.{FairMove, fair-open, fair-step, fair-send, fair-close, fair-drop}
 use Rattle.model.proofs.Asked.{sessionIn, ownMove, own-cases, moveIn, requested-own, not-own, Meaning, refuses, givesNode, givesRoute, ofSession, shows, givesBack, meaning}
 use Rattle.model.proofs.Counted.{Good, users-least, stored-own, stored-others, stored-good}
 
@@ -77,6 +77,7 @@ module _ (n : Network) (standing : ℕ → ℕ → Bool) (t : Part) (h : (a q : 
   move-same (Close u) = refl
   move-same Show = refl
   move-same Net = refl
+  move-same (Drop u e) = refl
 
 -- the association of an in row stands
 in-row-stands : (s : State) → Good s → (u : ℕ) → Numbered u → (a q : ℕ) → admits (held (load s u)) a q ≡ true
@@ -92,7 +93,7 @@ pub fair-own : (s : State) → Good s → (u : ℕ) → Numbered u → (q : requ
 fair-own s g u hu q =
     let t = load s u in
     let h = load-whole s (g .sized) u hu in
-    own-cases (FairMove t) (s .network) (stands (s .users) false) q t tt (fair-open t h _) (fair-step t h _ _) (fair-send t h) (fair-close t h)
+    own-cases (FairMove t) (s .network) (stands (s .users) false) q t tt (fair-open t h _) (fair-step t h _ _) (fair-send t h) (fair-close t h) (fair-drop t h)
 
 -- ---- a session's own reply
 

@@ -19,20 +19,12 @@ use Rattle.forms.specs.Request.{asked}
 use Rattle.model.specs.Lists.{upFrom}
 use Rattle.model.specs.Row.{areNodes}
 use Rattle.model.specs.State.{answerOf, writtenCount, applied, sessionAfter}
-use Rattle.model.specs.Requests.{Move, refuse, opening, openMove, stepped, stepAt, stepMove, sending, sendMove, closing, closeMove}
+use Rattle.model.specs.Requests.{Move, refuse, opening, openMove, stepped, stepAt, stepMove, sending, sendMove, closing, closeMove, dropping, dropMove}
 use Rattle.model.specs.Calls.{Call}
 use Rattle.model.specs.Noninterference.{numbersIn, numbersInLines}
 use Rattle.model.proofs.Checks.{checked-either}
 use Rattle.model.proofs.Asked.{ownMove, own-cases}
 use Rattle.model.proofs.Local.{Seen, seenMove, seenParsed, local}
-
-pub up-append : (n j k : ℕ) → upFrom n (j + k) ≡ upFrom n j ++ upFrom (n + j) k
-unfolding upFrom
-up-append n zero k = rw (zero-add, add-zero)
-up-append n (suc j) k =
-    let e : suc j + k ≡ suc (j + k) = omega arith in
-    let f : n + suc j ≡ n + 1 + j = omega arith in
-    rw (e, f) (ap (λ (l : List ℕ). (n + 1) ∷ l) (up-append (n + 1) j k))
 
 -- as many numbers as the part's last number grew by, those after it
 pub record Issued (t t′ : Part) (l : List ℕ) : Type 0 where
@@ -67,13 +59,14 @@ module _ (t : Part) where
   step-issues at f = record { many = writtenCount (f .outcome); last = refl; carried = answer-numbers (t .session .last .0) (f .outcome) }
 
   move-issues : (n : Network) (q : request.Request) → IssuesMove t (ownMove n areNodes q t)
-  unfolding openMove opening stepMove stepAt sendMove sending closeMove closing upFrom
+  unfolding openMove opening stepMove stepAt sendMove sending closeMove closing dropMove dropping upFrom
   move-issues n q =
       own-cases (IssuesMove t) n areNodes q t (issued-none t)
       (λ c d. checked-either (IssuesMove t) refuse (λ r. issued-none t) _ (λ e. record { many = 1; last = refl; carried = refl }))
       (λ k. checked-either (IssuesMove t) refuse (λ r. issued-none t) _ (λ e. step-issues _ _))
       (λ w tag. checked-either (IssuesMove t) refuse (λ r. issued-none t) _ (λ e. record { many = 1; last = refl; carried = refl }))
       (checked-either (IssuesMove t) refuse (λ r. issued-none t) _ (λ e. record { many = 0; last = omega arith; carried = refl }))
+      (λ e. checked-either (IssuesMove t) refuse (λ r. issued-none t) _ (λ k. record { many = 0; last = omega arith; carried = refl }))
 
   parsed-issues : (n : Network) (p : Parsed) → Issues t (seenParsed n t p)
   parsed-issues n (Asks q) = move-issues n q

@@ -16,8 +16,8 @@ use Rattle.calculus.specs.declared.packet.Packet.{Packet}
 use Rattle.calculus.specs.declared.session.Row.{Row}
 use Rattle.model.specs.Lists.{All}
 use Rattle.model.specs.Network.{isGateway, nextHop}
-use Rattle.model.specs.Packet.{hopLimit, bare}
-use Rattle.model.specs.Row.{noPeers, outRow, inRow, skips, fits, newest}
+use Rattle.model.specs.Packet.{hopLimit, bare, concerns}
+use Rattle.model.specs.Row.{noPeers, outRow, inRow, fits, newest}
 use Rattle.model.specs.Rules.{discovers}
 use Rattle.model.proofs.Lists.{all-map}
 use Rattle.model.proofs.Match.{of-newest, none-newest}
@@ -134,14 +134,14 @@ module _ (net : Network) (c d b : ℕ) where
     other-ends s t r (initiatorIn i e w m) = refl
 
     -- the first establishment's packets skip its rows, and there are no others
-    first-skipped : b ≡ 1 → skips (p .payload) b ≡ true → (r : Row) → row r → fits true x p r ≡ false
+    first-skipped : b ≡ 1 → concerns (p .payload) b ≡ true → (r : Row) → row r → fits true x p r ≡ false
     first-skipped o k r (responderOut i e w m) = let v : e ≡ b = omega arith in rw (v, k) (simp and-false)
     first-skipped o k r (responderIn i e w m) = refl
     first-skipped o k r (initiatorOut i e w m) = let v : e ≡ b = omega arith in rw (v, k) (simp and-false)
     first-skipped o k r (initiatorIn i e w m) = refl
 
     -- neither Req nor Rep of establishment b goes through a tunnel
-    pub never-tunnelled : (i : ℕ) → b ≡ i + 1 → Between net c d b → skips (p .payload) b ≡ true
+    pub never-tunnelled : (i : ℕ) → b ≡ i + 1 → Between net c d b → concerns (p .payload) b ≡ true
         → ((points net c d i ≡ c → ⊥) → (p .source ≡ c → ⊥) × (p .destination ≡ c → ⊥)) → (rows : List Row) → All row rows
         → newest rows true x p ≡ noPeers
     never-tunnelled zero o h k f rows rs =

@@ -18,7 +18,7 @@ use Rattle.model.proofs.Parts.{Numbered}
 use Rattle.model.specs.GivenBack.{Consistent}
 use Rattle.model.proofs.Consistent.{consistent-fresh, consistent-node, consistent-route}
 use Rattle.model.proofs.Moves.{FairMove}
-use Rattle.model.proofs.Sane.{Sane, SaneMove, sane-empty, sane-open, sane-step, sane-send, sane-close}
+use Rattle.model.proofs.Sane.{Sane, SaneMove, sane-empty, sane-open, sane-step, sane-send, sane-close, sane-drop}
 use Rattle.model.proofs.Asked.{sessionIn, own-cases, moveIn}
 use Rattle.model.proofs.Counted.{Good}
 use Rattle.model.proofs.Local.{Seen, seenMove, fair-own, performed-own, performed-others, performed-good}
@@ -52,7 +52,7 @@ module _ (s : State) (h : Sound s) where
       let t = load s u in
       let k = h .sane u hu in
       own-cases SaneMove (s .network) (stands (s .users) false) q t tt
-      (sane-open t k _) (sane-step t k _ (h .consistent) _) (sane-send t k) (sane-close t k)
+      (sane-open t k _) (sane-step t k _ (h .consistent) _) (sane-send t k) (sane-close t k) (sane-drop t k)
 
   turn-sound : (u : ℕ) → Numbered u → (m : Move) → FairMove (load s u) m → SaneMove m → Sound (performed s u m .state)
   turn-sound u hu m f k =

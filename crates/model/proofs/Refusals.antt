@@ -20,7 +20,7 @@ use Rattle.forms.specs.Text.{Form}
 use Rattle.forms.specs.Read.{read}
 use Rattle.forms.specs.Request.{asked}
 use Rattle.model.specs.State.{answerOf}
-use Rattle.model.specs.Requests.{refused, nodeTurn, routeTurn, Move, refuse, moved, openMove, stepped, stepAt, stepMove, sendMove, closeMove, performed}
+use Rattle.model.specs.Requests.{refused, nodeTurn, routeTurn, Move, refuse, moved, openMove, stepped, stepAt, stepMove, sendMove, closeMove, dropMove, performed}
 use Rattle.model.specs.Row.{stands}
 use Rattle.model.specs.Calls.{Lines, answered, requested, repliedTo, refusalIn, oneAnswer}
 use Rattle.model.specs.Refusals.{CanReply, refusedWith, answeredWith, shownWith, givenBackWith, Refusals}
@@ -42,7 +42,7 @@ Says s t = CanReply s (oneAnswer t)
 -- ---- a session's move
 
 -- a refusal that is written, or an answer of one line
-abbrev Answers : Move → Type 0
+abbrev pub Answers : Move → Type 0
 Answers (refuse r) = IsWritten r
 Answers (moved a t c) = refusalIn a ≡ none
 
@@ -59,14 +59,15 @@ step-answers : (t : Part) (at : ℕ) (f : Effect) → Answers (stepped t at f)
 unfolding stepped
 step-answers t at f = outcome-answers (t .session .last .0) (f .outcome)
 
-move-answers : (n : Network) (standing : ℕ → ℕ → Bool) (q : request.Request) (t : Part) → Answers (ownMove n standing q t)
-unfolding openMove stepMove stepAt sendMove closeMove
+pub move-answers : (n : Network) (standing : ℕ → ℕ → Bool) (q : request.Request) (t : Part) → Answers (ownMove n standing q t)
+unfolding openMove stepMove stepAt sendMove closeMove dropMove
 move-answers n standing q t =
     own-cases Answers n standing q t refl
     (λ c d. checked-written Answers refuse (λ r w. w) _ (refl, (refl, (refl, (refl, (refl, tt))))) refl)
     (λ k. checked-written Answers refuse (λ r w. w) _ (refl, (refl, (refl, (refl, tt)))) (step-answers t _ _))
     (λ w tag. checked-written Answers refuse (λ r w. w) _ (refl, (refl, (refl, tt))) refl)
     (checked-written Answers refuse (λ r w. w) _ (refl, tt) refl)
+    (λ e. checked-written Answers refuse (λ r w. w) _ (refl, (refl, (refl, tt))) refl)
 
 performed-says : (s : State) (u : ℕ) (m : Move) → Answers m → Says s (performed s u m)
 unfolding performed

@@ -1,25 +1,32 @@
 -- There is room: every request leaves a place for each item and row to come, and each wait that is to be used up. Assumes nothing.
 use mathlib.Core.Path.{_≡_, refl, _∙_}
-use mathlib.Core.Bool.{false}
+use mathlib.Core.Bool.{Bool, false}
 use mathlib.Core.List.{List}
 use Prim.Native.Nat.{ℕ, _+_, _-_, _*_, _≤_, _<_}
 use native.Mathlib.Omega.{arith}
-use lib.ListN.{length, set, replicate, length-take}
+use lib.Dec.{eqb}
+use lib.ListN.{length, set, replicate, length-append}
 use Rattle.calculus.specs.declared.effect.Wait.{Wait}
 use Rattle.calculus.specs.declared.effect.Effect.{Effect}
 use Rattle.calculus.specs.declared.packet.Item.{Item}
 use Rattle.calculus.specs.declared.packet.Item.the-variants.{Free}
 use Rattle.calculus.specs.declared.packet.Slot.{Slot}
+use Rattle.calculus.specs.declared.session.Row.{Row}
 use Rattle.calculus.specs.declared.session.Stage.{Stage}
 use Rattle.calculus.specs.declared.state.Part.{Part}
-use Rattle.model.specs.State.{blankSlot, blankRow, addedRows, putItem, sessionAfter, applied}
+use Rattle.model.specs.State.{blankSlot, blankRow, begunAfter, addedRows, placed, putItem, sessionAfter, applied}
+use Rattle.model.specs.Lists.{tally, upFrom}
 use Rattle.model.specs.Item.{isWait}
+use Rattle.model.specs.Row.{held, isOf}
 use Rattle.model.specs.Requests.{nextNumber, withItem}
 use Rattle.model.specs.SetUp.{isPending, itemAt}
+use Rattle.calculus.specs.Number.{within}
+use Rattle.model.proofs.Checks.{one}
 use Rattle.model.proofs.Parts.{Whole}
 use Rattle.model.proofs.Weights.{count, weigh, weighOut, weighWait, weigh-set, weigh-at, weigh-put, not-that-wait, length-put, ledger}
-use Rattle.model.proofs.Moves.{applied-whole}
-use Rattle.model.proofs.SetUpWeights.{waits, uses, space, carries, active, due, spare, pending, pends}
+use Rattle.model.proofs.Lists.{tally-append, tally-take, tally-each}
+use Rattle.model.proofs.Moves.{held-applied, applied-whole}
+use Rattle.model.proofs.SetUpWeights.{waits, uses, space, carries, active, due, rowsOf, begunOf, each, spare, pending, pends, begun-each, begun-once}
 use Rattle.model.proofs.Balance.{Law}
 
 pub record Roomy (t : Part) : Type 0 where
@@ -32,8 +39,9 @@ pub record Roomy (t : Part) : Type 0 where
   -- one item at most is neither a wait nor Data
   pub actives : weigh active (t .items) ≤ 1
   pub begun : t .session .begun ≤ 8
-  -- the rows there are and those to come: 4 for each of 8 establishments
-  pub rows : weigh due (t .items) + 4 * (8 - t .session .begun) + t .session .rows ≤ 32
+  pub counted : length (held t) ≡ t .session .rows
+  -- of any establishments, those that w holds of: their rows and those to come are 4 at most for each that is begun
+  pub rows : (w : ℕ → Bool) → weigh (due w) (t .items) + rowsOf w (held t) ≤ 4 * begunOf w (t .session .begun)
 
 -- a part with no items and no rows
 abbrev pub emptied : ℕ → Part
@@ -45,10 +53,18 @@ emptied last =
     }
 
 pub roomy-empty : (last : ℕ) → Roomy (emptied last)
-unfolding weigh uses space carries active due
+unfolding weigh uses space carries active due upFrom
 roomy-empty last = omega arith
 
 module _ (t : Part) (h : Roomy t) where
+  -- of one establishment
+  pub rows-each : (e : ℕ) → tally (isOf e) (held t) ≤ 4 * one (within 1 (t .session .begun) e)
+  rows-each e = omega (arith, h .rows (λ f. eqb f e), begun-once e (t .session .begun))
+
+  -- of all
+  pub few-rows : weigh (due each) (t .items) + t .session .rows ≤ 4 * t .session .begun
+  few-rows = omega (arith, h .rows each, h .counted, tally-each (held t), begun-each (t .session .begun))
+
   -- ---- a step
 
   module _ (at : ℕ) (b : at < 16) (w : isWait (itemAt (t .items) at) ≡ false) (f : Effect) (law : Law (t .session) (itemAt (t .items) at) f) where
@@ -79,7 +95,21 @@ module _ (t : Part) (h : Roomy t) where
     -- the rows that are added find a place
     pub rows-fit : length (addedRows (f .added)) ≤ 32 - t .session .rows
     unfolding due
-    rows-fit = omega (arith, law .rows, h .rows, weigh-at due refl (t .items) at)
+    rows-fit =
+        omega (
+          arith,
+          law .rows each,
+          tally-each (addedRows (f .added)),
+          begun-each (t .session .begun),
+          begun-each (begunAfter (t .session .begun) (f .begins)),
+          few-rows,
+          weigh-at (due each) refl (t .items) at,
+          law .begun,
+          h .begun,
+        )
+
+    abbrev came : List Row
+    came = placed (t .session .rows) (f .added)
 
     pub roomy-step : Roomy (applied t at f)
     unfolding waits uses space carries active due applied sessionAfter
@@ -99,12 +129,22 @@ module _ (t : Part) (h : Roomy t) where
           tags = omega (arith, step-ledger carries refl);
           actives = omega (arith, step-ledger active refl, law .actives);
           begun = omega (arith, law .begun, h .begun);
-          rows = omega (arith, step-ledger due refl, length-take (32 - t .session .rows) (addedRows (f .added)));
+          counted = rw (held-applied t (h .whole) at f) (omega (arith, length-append (held t) came, h .counted));
+          rows = λ v.
+              rw (held-applied t (h .whole) at f)
+              (omega (
+                arith,
+                step-ledger (due v) refl,
+                law .rows v,
+                h .rows v,
+                tally-append (λ r. v (r .establishment)) (held t) came,
+                tally-take (λ r. v (r .establishment)) (32 - t .session .rows) (addedRows (f .added)),
+              ));
         }
 
   -- ---- an item more, for which nothing waits
 
-  pub roomy-item : (g : Stage) (c d : ℕ) (i : Item) → ((v : Wait) → uses v i ≡ 0) → due i ≡ 0
+  pub roomy-item : (g : Stage) (c d : ℕ) (i : Item) → ((v : Wait) → uses v i ≡ 0) → ((w : ℕ → Bool) → due w i ≡ 0)
       → weigh space (t .items) + space i + spare g ≤ 3 → weigh carries (t .items) + carries i + 4 * spare g ≤ 12
       → weigh active (t .items) + active i ≤ 1 → Roomy (withItem t g c d i)
   unfolding waits uses space carries active due
@@ -120,5 +160,6 @@ module _ (t : Part) (h : Roomy t) where
         tags = omega (arith, put carries refl);
         actives = omega (arith, put active refl);
         begun = h .begun;
-        rows = omega (arith, put due refl, no-rows);
+        counted = h .counted;
+        rows = λ w. omega (arith, put (due w) refl, no-rows w, h .rows w);
       }

@@ -1,11 +1,11 @@
 -- What every request of a session keeps of its part: there is room, and items, rows and ends name nodes. Assumes nothing.
-use mathlib.Core.Path.{_≡_, refl, sym, subst, _∙_}
+use mathlib.Core.Path.{_≡_, refl, sym, ap, subst, _∙_}
 use mathlib.Core.Bool.{Bool, true, false, _&&_}
 use mathlib.Core.List.{List}
 use Prim.Native.Nat.{ℕ, _+_, _-_, _≤_}
 use native.Mathlib.Omega.{arith}
 use lib.Dec.{leb}
-use lib.ListN.{set}
+use lib.ListN.{length, set}
 use borrow.Author.Tests.{ltb-false, leb-false, eqb-false, not-false}
 use Rattle.calculus.proofs.Tests.{both, never}
 use Rattle.calculus.specs.declared.effect.Outcome.{Outcome}
@@ -23,22 +23,22 @@ use Rattle.calculus.specs.declared.state.Part.{Part}
 use Rattle.model.specs.Network.{given}
 use Rattle.model.specs.Packet.{bare}
 use Rattle.model.specs.Item.{isFree, isWait, isThatWait, vacant, isDataItem, howManyItems}
-use Rattle.model.specs.Row.{held}
+use Rattle.model.specs.Row.{held, isOf, isOther}
 use Rattle.model.specs.Rules.{rule}
 use Rattle.model.specs.State.{blankSlot, isNumbered, useUp, putItem, written, writtenCount, stageAfter, addedRows, placed, itemsAfter, sessionAfter, applied}
 use Rattle.model.specs.GivenBack.{Consistent}
-use Rattle.model.specs.Requests.{Move, refuse, moved, isUnused, unused, spent, nextNumber, withItem, opening, openMove, stepped, stepAt, stepMove, sending, sendMove, closing, closeMove}
+use Rattle.model.specs.Requests.{Move, refuse, moved, isUnused, unused, spent, nextNumber, withItem, opening, openMove, stepped, stepAt, stepMove, sending, sendMove, closing, closeMove, dropping, dropMove}
 use Rattle.model.specs.SetUp.{isPending, itemAt}
 use Rattle.model.proofs.Checks.{checked-either}
 use Rattle.model.specs.Lists.{place, All}
-use Rattle.model.proofs.Lists.{all-set, all-get, all-append, all-take, all-replicate, all-map, none-tallied}
+use Rattle.model.proofs.Lists.{all-set, all-get, all-append, all-take, all-replicate, all-map, all-those, none-tallied, tally-split}
 use Rattle.model.proofs.Nodes.{Node, given-node}
 use Rattle.model.proofs.Weights.{counted, weigh-le, free-is}
 use Rattle.model.proofs.SetUpWeights.{uses, space, carries, active, due, spare, active-space, pending}
 use Rattle.model.proofs.Balance.{rule-law}
 use Rattle.model.proofs.Pending.{Distinct, distinct-step, distinct-item}
 use Rattle.model.proofs.Roomy.{Roomy, emptied, roomy-empty, roomy-step, roomy-item}
-use Rattle.model.proofs.Moves.{held-applied}
+use Rattle.model.proofs.Moves.{held-applied, held-dropping, dropping-whole}
 use Rattle.model.proofs.Named.{Named, RowNamed, Written, bare-named, rule-named}
 
 -- ---- every item
@@ -188,7 +188,7 @@ module _ (t : Part) (h : Sane t) where
       sane-item Stage.SettingUp c d i refl l hc hd
       (all-unused (Named d) tt t h u)
       (hc, bare-named c d (Disc c) hc hd, λ e. (hc, ne, refl, refl))
-      (roomy-item t (h .roomy) Stage.SettingUp c d i (λ v. refl) refl (omega arith) (omega arith)
+      (roomy-item t (h .roomy) Stage.SettingUp c d i (λ v. refl) (λ w. refl) (omega arith) (omega arith)
       (omega (arith, weigh-le active space active-space (t .items))))
 
   pub sane-open : (n : Network) (c d : ℕ) → SaneMove (openMove n c d t)
@@ -212,7 +212,7 @@ module _ (t : Part) (h : Sane t) where
         let z : spare g ≡ 0 = rw u in
         let k = leb-false 12 (howManyItems isDataItem (t .items)) room in
         sane-item g c d i u l (h .ends u .0) (h .ends u .1) (h .items) (ha, bare-named a b (Data tag) ha hb, refl, refl)
-        (roomy-item t (h .roomy) g c d i (λ v. refl) refl (omega arith) (omega (arith, counted isDataItem (t .items))) (omega arith))
+        (roomy-item t (h .roomy) g c d i (λ v. refl) (λ w. refl) (omega arith) (omega (arith, counted isDataItem (t .items))) (omega arith))
 
     sane-sending : (w : Sender) → Sane (sending t w tag)
     unfolding sending
@@ -227,3 +227,38 @@ module _ (t : Part) (h : Sane t) where
   pub sane-close : SaneMove (closeMove t)
   unfolding closeMove closing
   sane-close = checked-either SaneMove refuse (λ r. tt) _ (λ e. sane-empty (t .session .last .0) (h .last))
+
+  -- ---- drop
+
+  roomy-dropping : (e : ℕ) → Roomy (dropping e t)
+  unfolding dropping
+  roomy-dropping e =
+      let k = h .roomy in
+      let left = held-dropping e t (k .whole) in
+      record {
+        whole = dropping-whole e t (k .whole);
+        waits = k .waits;
+        places = k .places;
+        tags = k .tags;
+        actives = k .actives;
+        begun = k .begun;
+        counted = ap length left;
+        rows = λ w. rw left (omega (arith, k .rows w, tally-split (isOf e) (λ r. w (r .establishment)) (held t)));
+      }
+
+  sane-dropping : (e : ℕ) → unused t ≡ false → Sane (dropping e t)
+  unfolding dropping
+  sane-dropping e u =
+      record {
+        roomy = roomy-dropping e;
+        rows = rw (held-dropping e t (h .roomy .whole)) (all-those RowNamed (isOther e) (held t) (h .rows));
+        items = h .items;
+        ends = h .ends;
+        last = h .last;
+        distinct = record { once = h .distinct .once };
+        idle = λ z. never (sym u ∙ z);
+      }
+
+  pub sane-drop : (e : ℕ) → SaneMove (dropMove e t)
+  unfolding dropMove
+  sane-drop e = checked-either SaneMove refuse (λ r. tt) _ (λ k. sane-dropping e (k .0))

@@ -1,11 +1,12 @@
 -- What a set-up can hold, in every state that calls reach. Assumes nothing.
 use mathlib.Core.Path.{_≡_, refl, ap, _∙_}
-use mathlib.Core.Bool.{Bool, false}
+use mathlib.Core.Bool.{Bool, true, false, cond}
 use mathlib.Core.List.{List, [], _∷_, _++_}
-use Prim.Native.Nat.{ℕ, _+_, _≤_, _<_}
+use Prim.Native.Nat.{ℕ, _+_, _*_, _≤_, _<_}
 use native.Mathlib.Omega.{arith}
 use lib.Seq.{take-all}
 use Rattle.calculus.proofs.Tests.{either}
+use Rattle.calculus.specs.Number.{within}
 use Rattle.calculus.specs.declared.effect.Outcome.{Outcome}
 use Rattle.calculus.specs.declared.effect.Outcome.the-variants.{Wrote, WroteByDefault, WroteTwo, Lost, Denied, Opened, Delivered}
 use Rattle.calculus.specs.declared.effect.Wait.{Wait}
@@ -24,14 +25,15 @@ use Rattle.model.specs.SetUp.{itemAt, isSetUpItem, isGrant, isDiscOffWir
 use Rattle.model.specs.State.{fresh, load, putItem, applied}
 use Rattle.model.specs.Calls.{after}
 use Rattle.model.specs.Lists.{tally, All}
+use Rattle.model.proofs.Checks.{one}
 use Rattle.model.proofs.Lists.{all-map, tally-none}
 use Rattle.model.proofs.Weights.{count, counted, weighOut, weighWait, weigh-le, weigh-sum, weigh-at, weigh-put, free-or-pending}
-use Rattle.model.proofs.SetUpWeights.{uses, space, carries, due, wanted, pends, set-up-space, pending, grant-due}
+use Rattle.model.proofs.SetUpWeights.{uses, space, carries, due, each, wanted, pends, set-up-space, pending, grant-due}
 use Rattle.model.proofs.Parts.{Numbered}
 use Rattle.model.proofs.Moves.{held-applied}
 use Rattle.model.proofs.Balance.{rule-law}
 use Rattle.model.proofs.Nodes.{network-holds}
-use Rattle.model.proofs.Roomy.{Roomy, step-ledger, rows-fit}
+use Rattle.model.proofs.Roomy.{Roomy, few-rows, rows-each, step-ledger, rows-fit}
 use Rattle.model.proofs.Named.{Named}
 use Rattle.model.proofs.Sane.{At, unused-none}
 use Rattle.model.proofs.Counted.{Good, users-most}
@@ -85,7 +87,7 @@ module _ (t : Part) (h : Roomy t) where
         weigh-put (count g) (rw z) (t .items) n i (omega (arith, pending (t .items), h .places, h .tags, h .whole .items)),
       )
 
-  step-drops-nothing : (n : Network) (standing : ℕ → ℕ → Bool) (at : ℕ) → at < 16 → isWait (itemAt (t .items) at) ≡ false
+  pub step-drops-nothing : (n : Network) (standing : ℕ → ℕ → Bool) (at : ℕ) → at < 16 → isWait (itemAt (t .items) at) ≡ false
       → DropsNothing t at (rule n standing t (itemAt (t .items) at))
   step-drops-nothing n standing at b w =
       let i = itemAt (t .items) at in
@@ -118,6 +120,10 @@ named-packet v (Ack a e) h = tt
 named-packet v (Dwait a) h = tt
 named-packet v (Ewait a e) h = tt
 
+four : (b : Bool) {n : ℕ} → n ≤ 4 * one b → n ≤ cond b 4 0
+four true h = omega arith
+four false h = omega arith
+
 holds : (s : State) → Sound s → (u : ℕ) → Numbered u → Holds s (load s u)
 unfolding uses carries
 holds s sound u hu =
@@ -137,8 +143,11 @@ holds s sound u hu =
         arith,
         counted isGrant l,
         weigh-sum (count isGrant) (count isGrant) l,
-        weigh-le (λ i. count isGrant i + count isGrant i) due grant-due l,
+        weigh-le (λ i. count isGrant i + count isGrant i) (due each) grant-due l,
+        few-rows t k,
+        k .begun,
       );
+      establishments = λ e. four (within 1 (t .session .begun) e) (rows-each t k e);
       rowNodes = h .rows;
       begun = k .begun;
       packets = all-map (At (Named (t .session .server))) (At HoldsPacket) (λ x. named-packet (t .session .server) (x .item)) l (h .items);

@@ -7,24 +7,24 @@ use Prim.Native.Nat.{ℕ, _≤_}
 use native.Mathlib.Omega.{arith}
 use lib.Dec.{ltb}
 use Rattle.calculus.proofs.Tests.{Way, is, isnt, way, both, never, either}
-use Rattle.calculus.specs.Number.{within, isSession, isItem, isTag}
+use Rattle.calculus.specs.Number.{within, isSession, isItem, isEstablishment, isTag}
 use Rattle.calculus.specs.declared.network.Network.{Network}
 use Rattle.calculus.specs.declared.packet.Slot.{Slot}
 use Rattle.calculus.specs.declared.request.Request as request
 use Rattle.calculus.specs.declared.request.Sender.{Sender}
 use Rattle.calculus.specs.declared.state.Part.{Part}
 use Rattle.calculus.specs.declared.state.State.{State}
-use Rattle.forms.specs.Text.{Form, node, route, «open», step, send, close, show, net}
+use Rattle.forms.specs.Text.{Form, node, route, «open», step, send, close, show, net, takeDown}
 use Rattle.forms.specs.Read.{read}
 use Rattle.forms.specs.Request.{asked}
 use Rattle.model.specs.Lists.{place, All}
 use Rattle.model.specs.Row.{areNodes}
 use Rattle.model.specs.Rules.{rule}
 use Rattle.model.specs.State.{load, blankSlot, isNumbered, applied}
-use Rattle.model.specs.Requests.{Move, refuse, spent, nextNumber, stepped, stepAt, stepMove, dataItem, sending, sendMove, closing, closeMove}
-use Rattle.model.specs.Calls.{Call, call, formNames, isOwn}
+use Rattle.model.specs.Requests.{Move, refuse, spent, nextNumber, stepped, stepAt, stepMove, dataItem, sending, sendMove, closing, closeMove, dropping, dropMove}
+use Rattle.model.specs.Calls.{Call, call, isAccepted, formNames, isOwn}
 use Rattle.model.specs.SetUp.{isSetUpItem, itemAt}
-use Rattle.model.specs.Termination.{isAccepted, formCount, callCount, isActive, Settled, formOpens, opens}
+use Rattle.model.specs.Termination.{formCount, callCount, isActive, Settled, formOpens, opens}
 use Rattle.model.proofs.Checks.{checked-either}
 use Rattle.model.proofs.Lists.{all-get, all-set, none-tallied, tally-none}
 use Rattle.model.proofs.Parts.{Numbered}
@@ -70,6 +70,10 @@ module _ (network : Network) (t : Part) (k : Settled t) where
   unfolding closeMove closing
   settled-close = checked-either (λ (m : Move). Stays (seenMove t m)) refuse (λ r. k) _ (λ e l. refl)
 
+  settled-drop : (e : ℕ) → Stays (seenMove t (dropMove e t))
+  unfolding dropMove dropping
+  settled-drop e = checked-either (λ (m : Move). Stays (seenMove t m)) refuse (λ r. k) _ (λ w. k)
+
   -- ---- a line
 
   -- an own line that opens nothing
@@ -82,6 +86,7 @@ module _ (network : Network) (t : Part) (k : Settled t) where
   line-settled u (some (close v)) e w = ranged-seen Stays network t k (isSession v) _ settled-close
   line-settled u (some show) e w = never e
   line-settled u (some net) e w = never e
+  line-settled u (some (takeDown v f)) e w = ranged-seen Stays network t k (isSession v && isEstablishment f) _ (settled-drop f)
   line-settled u none e w = never e
 
   local-settled : (u : ℕ) (c : Call) → isOwn u c ≡ true → opens u c ≡ false → Stays (local network t c)
@@ -97,6 +102,7 @@ form-grows u l n (some (send v x tag)) e w = omega arith
 form-grows u l n (some (close v)) e w = omega arith
 form-grows u l n (some show) e w = never e
 form-grows u l n (some net) e w = never e
+form-grows u l n (some (takeDown v f)) e w = omega arith
 form-grows u l n none e w = never e
 
 -- ---- a call

@@ -30,7 +30,7 @@ use Rattle.model.specs.Termination.{ceiling, isActive}
 use Rattle.model.proofs.Checks.{one}
 use Rattle.model.proofs.Lists.{all-map, all-set, all-get, all-append, all-take, none-tallied}
 use Rattle.model.proofs.Weights.{weighOut, counted, weigh-set}
-use Rattle.model.proofs.SetUpWeights.{active}
+use Rattle.model.proofs.SetUpWeights.{active, grant-active}
 use Rattle.model.proofs.Balance.{Law, rule-law}
 use Rattle.model.proofs.Moves.{held-applied}
 use Rattle.model.proofs.Named.{Written}
@@ -170,7 +170,7 @@ module _ (net : Network) (t : Part) (h : Sane t) (n : ℕ) (k : Tracked net t n)
       (subst (λ (x : ℕ). All (At (Tracks net (t .session .client) (t .session .server) x n)) rest) same
       (all-set (At (Tracks net _ _ _ n)) (t .items) at blankSlot (k .items) (λ o. never o)))
       (written-map Inactive (Later n) (λ i q o. never (sym q ∙ o)) (effect .outcome) (written-inactive (effect .outcome) (omega (arith, law .actives, z))))
-      (none-added LaterRow (effect .added) (omega (arith, law .adds, z)))
+      (none-added LaterRow (effect .added) (omega (arith, law .adds, grant-active item, z)))
 
   pub step-tracked : Tracked net stepped (cond (isSetUpItem item) (n + 1) n)
   step-tracked = either (Tracked net stepped) (isSetUpItem item) (λ e. active-step (rw (e, w))) (λ e. inactive-step (rw e))

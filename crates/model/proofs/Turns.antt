@@ -13,7 +13,7 @@ use Rattle.calculus.specs.declared.answer.Answer.the-variants.{Ok, No}
 use Rattle.calculus.specs.declared.answer.Refusal.{Refusal}
 use Rattle.calculus.specs.declared.network.Network.{Network}
 use Rattle.calculus.specs.declared.request.Request as request
-use Rattle.calculus.specs.declared.request.Request.the-variants.{Node, Route, Open, Step, Send, Close, Show, Net}
+use Rattle.calculus.specs.declared.request.Request.the-variants.{Node, Route, Open, Step, Send, Close, Show, Net, Drop}
 use Rattle.calculus.specs.declared.request.Sender.{Sender}
 use Rattle.calculus.specs.declared.state.Moved.{Moved}
 use Rattle.calculus.specs.declared.state.Part.{Part}
@@ -24,7 +24,7 @@ use Rattle.forms.specs.declared.read.Parsed.the-variants.{Asks, Refused}
 use Rattle.forms.specs.declared.read.Reading.{Reading}
 use Rattle.model.specs.Row.{oneMore, oneLess, lowered, stands}
 use Rattle.model.specs.State.{load, store, blankSession}
-use Rattle.model.specs.Requests.{Check, checked, refused, accepted, nodeTurn, routeTurn, Move, refuse, moved, openMove, stepMove, sendMove, closeMove, changed, performed}
+use Rattle.model.specs.Requests.{Check, checked, refused, accepted, nodeTurn, routeTurn, Move, refuse, moved, openMove, stepMove, sendMove, closeMove, dropMove, changed, performed}
 use Rattle.model.specs.Calls.{answer, Reply, refusalIn, oneAnswer, requested, replied, repliedTo}
 use Rattle.model.specs.Turn.{staying, moving, usersAfter, sessionOf, requestedOf, turnOf, usersWith, usersOf, isOk, networkOf, reportOf, linesAs, stateWith, Parts, Held}
 use Rattle.model.proofs.Checks.{checked-either}
@@ -124,6 +124,7 @@ parsed-whole s has needs (Asks (Send u w tag)) = still-whole s (u .0) _ (send-st
 parsed-whole s has needs (Asks (Close u)) = performed-whole s (u .0) _
 parsed-whole s has needs (Asks Show) = rw (stays s 1 Ok (s .network))
 parsed-whole s has needs (Asks Net) = rw (stays s 1 Ok (s .network))
+parsed-whole s has needs (Asks (Drop u e)) = performed-whole s (u .0) _
 parsed-whole s has needs (Refused r) = refused-whole s 1 r (s .network)
 
 -- what `Calls` says of a line that was read is what `Turn` says of it in pieces
@@ -179,6 +180,7 @@ with-length n users t (Send u w tag) = refl
 with-length n users t (Close u) = after-length users (closeMove t)
 with-length n users t Show = refl
 with-length n users t Net = refl
+with-length n users t (Drop u e) = after-length users (dropMove e t)
 
 users-length : (n : Network) (users : List ℕ) (t : Part) (p : Parsed) → length (usersOf n users t p) ≡ length users
 users-length n users t (Asks q) = with-length n users t q

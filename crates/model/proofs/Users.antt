@@ -1,6 +1,6 @@
 -- The users of an association, as rows raise and lower them, and the rows that name it, counted. Assumes nothing.
 use mathlib.Core.Path.{_≡_, refl, sym, _∙_}
-use mathlib.Core.Bool.{Bool, true, false, cond}
+use mathlib.Core.Bool.{Bool, true, false, cond, not}
 use mathlib.Core.List.{List, [], _∷_, _++_}
 use Prim.Native.Nat.{ℕ, _+_, _≤_, _<_}
 use native.Mathlib.Omega.{arith}
@@ -9,9 +9,10 @@ use lib.Seq.{getD-set-same, getD-set-other}
 use borrow.Author.Tests.{ltb-true, lt-ltb}
 use Rattle.calculus.proofs.Tests.{never, either}
 use Rattle.calculus.specs.declared.session.Row.{Row}
-use Rattle.model.specs.Lists.{fold}
+use Rattle.model.specs.Lists.{fold, those}
 use Rattle.model.specs.Row.{names, admits, howMany, usersPlace, areNodes, usersOf, withUsers, oneMore, oneLess, raised, lowered}
 use Rattle.model.proofs.Checks.{one, one-le}
+use Rattle.model.proofs.Lists.{tally-append, tally-split}
 use Rattle.model.proofs.Places.{same-parts, one-place, place-below}
 
 -- ---- rows counted
@@ -19,8 +20,12 @@ use Rattle.model.proofs.Places.{same-parts, one-place, place-below}
 module _ (out : Bool) (a q : ℕ) where
   pub many-append : (l m : List Row) → howMany out a q (l ++ m) ≡ howMany out a q l + howMany out a q m
   unfolding howMany
-  many-append [] m = omega arith
-  many-append (r ∷ l) m = omega (arith, many-append l m)
+  many-append l m = tally-append (names out a q) l m
+
+  -- the rows that f holds of, and the others, are all
+  pub many-split : (f : Row → Bool) (l : List Row) → howMany out a q (those f l) + howMany out a q (those (λ r. not (f r)) l) ≡ howMany out a q l
+  unfolding howMany
+  many-split f l = tally-split f (names out a q) l
 
   pub many-length : (l : List Row) → howMany out a q l ≤ length l
   unfolding howMany

@@ -10,20 +10,21 @@ use Rattle.calculus.specs.declared.answer.Answer.the-variants.{Ok, Made, MadeBy
 use Rattle.calculus.specs.declared.answer.Refusal.{Refusal}
 use Rattle.calculus.specs.declared.answer.Refusal.the-variants.{Short}
 use Rattle.calculus.specs.declared.request.Request as request
-use Rattle.calculus.specs.declared.request.Request.the-variants.{Node, Route, Open, Step, Send, Close, Show, Net}
+use Rattle.calculus.specs.declared.request.Request.the-variants.{Node, Route, Open, Step, Send, Close, Show, Net, Drop}
 use Rattle.calculus.specs.declared.state.State.{State}
 use Rattle.calculus.specs.declared.state.Turn.{Turn}
 use Rattle.forms.specs.declared.read.Parsed.{Parsed}
 use Rattle.forms.specs.declared.read.Parsed.the-variants.{Asks, Refused}
 use Rattle.forms.specs.declared.read.Reading.{Reading}
 use Rattle.forms.specs.Bytes.{joined}
-use Rattle.forms.specs.Text.{Form, node, route, «open», step, send, close, show, net}
+use Rattle.forms.specs.Text.{Form, node, route, «open», step, send, close, show, net, takeDown}
 use Rattle.forms.specs.Read.{read}
 use Rattle.forms.specs.Request.{asked}
 use Rattle.forms.specs.Answer.{answerText}
+use Rattle.model.specs.Lists.{those}
 use Rattle.model.specs.NetworkText.{networkLines}
 use Rattle.model.specs.Row.{stands}
-use Rattle.model.specs.Requests.{refused, nodeTurn, routeTurn, inSession, openMove, stepMove, sendMove, closeMove, shownLines}
+use Rattle.model.specs.Requests.{refused, nodeTurn, routeTurn, inSession, openMove, stepMove, sendMove, closeMove, dropMove, shownLines}
 
 -- ---- one call
 
@@ -76,6 +77,7 @@ requested s has needs (Send u w tag) = oneAnswer (inSession s (u .0) (sendMove w
 requested s has needs (Close u) = oneAnswer (inSession s (u .0) closeMove)
 requested s has needs Show = reported s (shownLines (s .users))
 requested s has needs Net = reported s (networkLines (s .network))
+requested s has needs (Drop u e) = oneAnswer (inSession s (u .0) (dropMove e))
 
 -- "every call 0, 1, 2": 1 and 2 are the reading's
 abbrev pub replied : State → List Bool → List Bool → Parsed → Reply
@@ -116,6 +118,11 @@ roomyCall line = record { line = line; size = 65536 }
 abbrev pub call : State → Call → Reply
 call s c = answered s (c .line) (c .size)
 
+-- not refused
+abbrev pub isAccepted : Option Refusal → Bool
+isAccepted (some r) = false
+isAccepted none = true
+
 -- "Each call of the list gets the tables that the call before it left, refused or not"
 unfoldable pub after : State → List Call → State
 after s [] = s
@@ -135,6 +142,7 @@ formGivesNetwork (some (send u w tag)) = false
 formGivesNetwork (some (close u)) = false
 formGivesNetwork (some show) = false
 formGivesNetwork (some net) = false
+formGivesNetwork (some (takeDown u e)) = false
 formGivesNetwork none = false
 
 abbrev pub givesNetwork : Call → Bool
@@ -150,6 +158,7 @@ formNames u (some (send v w tag)) = eqb v u
 formNames u (some (close v)) = eqb v u
 formNames u (some show) = false
 formNames u (some net) = false
+formNames u (some (takeDown v e)) = eqb v u
 formNames u none = false
 
 -- "A call is a session's own if its line names that session"
@@ -158,8 +167,7 @@ isOwn u c = formNames u (read (c .line))
 
 -- u's own calls
 unfoldable pub own : ℕ → List Call → List Call
-own u [] = []
-own u (c ∷ cs) = cond (isOwn u c) (c ∷ own u cs) (own u cs)
+own u cs = those (isOwn u) cs
 
 -- the replies to u's own calls among all
 unfoldable pub repliesTo : ℕ → State → List Call → List Reply

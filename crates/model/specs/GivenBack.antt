@@ -11,7 +11,7 @@ use Rattle.calculus.specs.declared.answer.Answer.the-variants.{Ok}
 use Rattle.calculus.specs.declared.network.Network.{Network}
 use Rattle.calculus.specs.declared.network.Node.{Node}
 use Rattle.calculus.specs.declared.state.State.{State}
-use Rattle.forms.specs.Text.{Form, node, route, «open», step, send, close, show, net, text}
+use Rattle.forms.specs.Text.{Form, node, route, «open», step, send, close, show, net, takeDown, text}
 use Rattle.forms.specs.Line.{lines}
 use Rattle.model.specs.Lists.{All, Rising}
 use Rattle.model.specs.Network.{noNode, routeTo, isRouted}
@@ -52,6 +52,7 @@ formKey (send u w tag) = []
 formKey (close u) = []
 formKey show = []
 formKey net = []
+formKey (takeDown u e) = []
 
 -- ---- the text, read
 

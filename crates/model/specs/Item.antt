@@ -9,7 +9,7 @@ use Rattle.calculus.specs.declared.packet.Item.{Item}
 use Rattle.calculus.specs.declared.packet.Item.the-variants.{Free, Wire, Out, Up, Est, Auth, Grant, Ack, Dwait, Ewait}
 use Rattle.calculus.specs.declared.packet.Slot.{Slot}
 use Rattle.model.specs.Lists.{tally}
-use Rattle.model.specs.Packet.{isData}
+use Rattle.model.specs.Packet.{isData, concerns}
 
 -- no item
 abbrev pub isFree : Item → Bool
@@ -71,6 +71,19 @@ isDataItem (Grant a q e side) = false
 isDataItem (Ack a e) = false
 isDataItem (Dwait a) = false
 isDataItem (Ewait a e) = false
+
+-- "an item naming that establishment" (request #109): est, auth, grant, ack and ewait of e, and Req(e) and Rep(e) in any item
+abbrev pub namesEstablishment : ℕ → Item → Bool
+namesEstablishment e Free = false
+namesEstablishment e (Wire a p) = concerns (p .payload) e
+namesEstablishment e (Out a p) = concerns (p .payload) e
+namesEstablishment e (Up a p) = concerns (p .payload) e
+namesEstablishment e (Est a b f) = eqb f e
+namesEstablishment e (Auth a q f side) = eqb f e
+namesEstablishment e (Grant a q f side) = eqb f e
+namesEstablishment e (Ack a f) = eqb f e
+namesEstablishment e (Dwait a) = false
+namesEstablishment e (Ewait a f) = eqb f e
 
 -- how many places hold an item of which f holds
 abbrev pub howManyItems : (Item → Bool) → List Slot → ℕ

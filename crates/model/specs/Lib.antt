@@ -16,6 +16,7 @@ pub mod Stream
 pub mod Noninterference
 pub mod SetUp
 pub mod Termination
+pub mod Drop
 pub mod Refusals
 pub mod Show
 pub mod GivenBack

@@ -15,7 +15,7 @@ use Rattle.calculus.specs.declared.packet.Payload.{Payload}
 use Rattle.calculus.specs.declared.packet.Payload.the-variants.{Rep, Disc, Done, Data}
 use Rattle.calculus.specs.declared.packet.Slot.{Slot}
 use Rattle.calculus.specs.declared.request.Request as request
-use Rattle.calculus.specs.declared.request.Request.the-variants.{Node, Route, Open, Step, Send, Close, Show, Net}
+use Rattle.calculus.specs.declared.request.Request.the-variants.{Node, Route, Open, Step, Send, Close, Show, Net, Drop}
 use Rattle.calculus.specs.declared.session.Row.{Row}
 use Rattle.calculus.specs.declared.session.Stage.{Stage}
 use Rattle.calculus.specs.declared.state.State.{State}
@@ -66,6 +66,7 @@ stepsLowest s (Send u w tag) = true
 stepsLowest s (Close u) = true
 stepsLowest s Show = true
 stepsLowest s Net = true
+stepsLowest s (Drop u e) = true
 
 abbrev pub parsedLowest : State → Parsed → Bool
 parsedLowest s (Asks q) = stepsLowest s q

@@ -20,6 +20,11 @@ abbrev pub tally : {A : Type 0} → (A → Bool) → List A → ℕ
 tally f [] = 0
 tally f (x ∷ xs) = cond (f x) 1 0 + tally f xs
 
+-- the elements that f holds of, in their order
+abbrev pub those : {A : Type 0} → (A → Bool) → List A → List A
+those f [] = []
+those f (x ∷ xs) = cond (f x) (x ∷ those f xs) (those f xs)
+
 -- P holds of each element
 abbrev pub All : {A : Type 0} → (A → Type 0) → List A → Type 0
 All P [] = Unit

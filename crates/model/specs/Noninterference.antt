@@ -1,7 +1,7 @@
 -- Demand 3: no session can tell whether the others are there. Proved in proofs/Noninterference. Assumes nothing.
 use Prim.Native.Nat.{ℕ, _+_}
 use mathlib.Core.Path.{_≡_}
-use mathlib.Core.Bool.{Bool, true, false, cond}
+use mathlib.Core.Bool.{Bool, true, false, cond, not}
 use mathlib.Core.List.{List, [], _∷_, _++_, map}
 use mathlib.Core.Option.{Option, none, some}
 use Rattle.calculus.specs.Answer.{refusalNumber}
@@ -14,7 +14,7 @@ use Rattle.calculus.specs.declared.session.Row.{Row}
 use Rattle.calculus.specs.declared.session.Stage.{Stage}
 use Rattle.calculus.specs.declared.state.Part.{Part}
 use Rattle.calculus.specs.declared.state.State.{State}
-use Rattle.model.specs.Lists.{All, upFrom}
+use Rattle.model.specs.Lists.{those, All, upFrom}
 use Rattle.model.specs.Item.{vacant}
 use Rattle.model.specs.Row.{held, howMany, usersOf, rowStands}
 use Rattle.model.specs.State.{fresh, load}
@@ -62,8 +62,7 @@ issued (r ∷ rs) = numbersInLines (r .lines) ++ issued rs
 
 -- the places that hold an item
 abbrev pub pending : List Slot → List Slot
-pending [] = []
-pending (s ∷ l) = cond (vacant s) (pending l) (s ∷ pending l)
+pending l = those (λ s. not (vacant s)) l
 
 -- "Ends are compared while the session is in use"
 abbrev pub endsOf : Part → Option (ℕ × ℕ)

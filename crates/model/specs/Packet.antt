@@ -73,3 +73,11 @@ isDataOrDone (Rep e) = false
 isDataOrDone (Disc p) = false
 isDataOrDone Done = true
 isDataOrDone (Data tag) = true
+
+-- Req(e) or Rep(e), of that e
+abbrev pub concerns : Payload → ℕ → Bool
+concerns (Req f) e = eqb f e
+concerns (Rep f) e = eqb f e
+concerns (Disc p) e = false
+concerns Done e = false
+concerns (Data tag) e = false

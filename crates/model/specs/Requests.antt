@@ -3,12 +3,13 @@ use Prim.Native.Nat.{ℕ, _+_, _-_}
 use mathlib.Core.Bool.{Bool, true, false, cond, not, _&&_, _||_}
 use mathlib.Core.List.{List, [], _∷_, _++_, map}
 use lib.Dec.{leb, ltb, eqb}
-use lib.ListN.{getD, set, take}
+use lib.ListN.{length, getD, set, take}
+use lib.Seq.{sets}
 use Rattle.calculus.specs.declared.answer.Answer.{Answer}
 use Rattle.calculus.specs.declared.answer.Answer.the-variants.{Ok, Made, Closed, No}
 use Rattle.calculus.specs.declared.answer.ShownAssociation.{ShownAssociation}
 use Rattle.calculus.specs.declared.answer.Refusal.{Refusal}
-use Rattle.calculus.specs.declared.answer.Refusal.the-variants.{Double, Unknown, Late, Taken, Idle, Same, Spent, NoItem, Waiting, Full}
+use Rattle.calculus.specs.declared.answer.Refusal.the-variants.{Double, Unknown, Late, Taken, Idle, Same, Spent, NoItem, Waiting, Full, Busy, NoSuchTunnel}
 use Rattle.calculus.specs.declared.answer.Refusal.the-variants as refusal
 use Rattle.calculus.specs.declared.network.Kind.{Kind}
 use Rattle.calculus.specs.declared.network.Network.{Network}
@@ -26,11 +27,11 @@ use Rattle.calculus.specs.declared.state.State.{State}
 use Rattle.calculus.specs.declared.state.Turn.{Turn}
 use Rattle.calculus.specs.Table.{entriesFrom, onlyIf}
 use Rattle.forms.specs.Answer.{associationLine, endLine}
-use Rattle.model.specs.Lists.{place}
+use Rattle.model.specs.Lists.{place, those}
 use Rattle.model.specs.Network.{given, isGateway, isDefault, routePlace, isRouted}
 use Rattle.model.specs.Packet.{bare}
-use Rattle.model.specs.Item.{isWait, isDataItem, howManyItems}
-use Rattle.model.specs.Row.{held, placeOut, placeNode, placePeer, raised, lowered, spiOf}
+use Rattle.model.specs.Item.{isWait, isDataItem, namesEstablishment, howManyItems}
+use Rattle.model.specs.Row.{held, isOf, isOther, placeOut, placeNode, placePeer, raised, lowered, spiOf}
 use Rattle.model.specs.Rules.{rule}
 use Rattle.model.specs.State.{blankSlot, blankPart, load, store, isNumbered, putItem, placed, answerOf, applied}
 
@@ -206,6 +207,28 @@ closeTo p t = checked refuse ((unused t, Idle) ∷ []) (moved Closed p (record {
 
 unfoldable pub closeMove : Part → Move
 closeMove t = closeTo (closing t) t
+
+-- "removes the rows that establishment e added, at both nodes": the others stay in their order, and so do begun, stage and items
+unfoldable pub dropping : ℕ → Part → Part
+dropping e t =
+    let s = t .session in
+    let kept = those (isOther e) (held t) in
+    record {
+      session = record { stage = s .stage; client = s .client; server = s .server; begun = s .begun; rows = length kept; last = s .last };
+      items = t .items;
+      rows = sets (t .rows) 0 kept;
+    }
+
+-- drop 7, 16, 17
+unfoldable pub dropMove : ℕ → Part → Move
+dropMove e t =
+    let gone = those (isOf e) (held t) in
+    checked refuse
+    ((unused t, Idle)
+    ∷ (ltb 0 (howManyItems (namesEstablishment e) (t .items)), Busy)
+    ∷ (eqb (length gone) 0, NoSuchTunnel)
+    ∷ [])
+    (moved Closed (dropping e t) (record { opens = false; went = gone; came = [] }))
 
 -- ---- a move made
 

@@ -6,13 +6,12 @@ use lib.Dec.{leb, ltb, eqb}
 use lib.ListN.{getD, set, take}
 use Rattle.calculus.specs.Number.{isNode, spi}
 use Rattle.calculus.specs.declared.number.Spi.{Spi}
-use Rattle.calculus.specs.declared.packet.Payload.{Payload}
-use Rattle.calculus.specs.declared.packet.Payload.the-variants.{Req, Rep, Disc, Done, Data}
 use Rattle.calculus.specs.declared.packet.Packet.{Packet}
 use Rattle.calculus.specs.declared.session.Peers.{Peers}
 use Rattle.calculus.specs.declared.session.Row.{Row}
 use Rattle.calculus.specs.declared.state.Part.{Part}
 use Rattle.model.specs.Lists.{fold, tally}
+use Rattle.model.specs.Packet.{concerns}
 
 -- a session's rows, the oldest first
 abbrev pub held : Part → List Row
@@ -29,6 +28,14 @@ outRow a from to q e = record { node = a; out = true; source = from; destination
 abbrev pub inRow : ℕ → ℕ → ℕ → ℕ → ℕ → Row
 inRow a from to q e = record { node = a; out = false; source = from; destination = to; peers = record { first = q }; establishment = e }
 
+-- establishment e added the row
+abbrev pub isOf : ℕ → Row → Bool
+isOf e r = eqb (r .establishment) e
+
+-- another did
+abbrev pub isOther : ℕ → Row → Bool
+isOther e r = not (isOf e r)
+
 -- ---- match
 
 -- both are out, or both are in
@@ -36,23 +43,16 @@ abbrev pub sameWay : Bool → Bool → Bool
 sameWay true y = y
 sameWay false y = not y
 
--- "for Req(e) and Rep(e), rows of that same e are skipped". For Req(e) no list of calls tells it: it is gone when they come
-abbrev pub skips : Payload → ℕ → Bool
-skips (Req e) f = eqb e f
-skips (Rep e) f = eqb e f
-skips (Disc p) f = false
-skips Done f = false
-skips (Data tag) f = false
-
--- the row is at the node, in the direction, its filter equals the packet's source and destination, and it is not skipped. No list of
--- calls tells either half of the filter from the whole: it is (c, d) or (d, c), and Req and Rep meet rows of their own e alone
+-- the row is at the node, in the direction, its filter equals the packet's source and destination, and it is not skipped: "for Req(e)
+-- and Rep(e), rows of that same e are skipped". For Req(e) no list of calls tells it, since it is gone when they come. Nor does one
+-- tell either half of the filter from the whole: it is (c, d) or (d, c), and Req and Rep meet rows of their own e alone
 abbrev pub fits : Bool → ℕ → Packet → Row → Bool
 fits out a p r =
     sameWay (r .out) out
     && eqb (r .node) a
     && eqb (r .source) (p .source)
     && eqb (r .destination) (p .destination)
-    && not (skips (p .payload) (r .establishment))
+    && not (concerns (p .payload) (r .establishment))
 
 abbrev pub newer : Bool → ℕ → Packet → Peers → Row → Peers
 newer out a p best r = cond (fits out a p r) (r .peers) best

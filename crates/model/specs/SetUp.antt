@@ -24,7 +24,7 @@ use Rattle.calculus.specs.Number.{within, isSession}
 use Rattle.model.specs.Lists.{tally, All, upFrom}
 use Rattle.model.specs.Network.{given, isGateway, nextHop}
 use Rattle.model.specs.Packet.{hopLimit, isBare}
-use Rattle.model.specs.Row.{held, areNodes, usersOf, stands}
+use Rattle.model.specs.Row.{held, isOf, areNodes, usersOf, stands}
 use Rattle.model.specs.Rules.{rule}
 use Rattle.model.specs.State.{fresh, load, blankSlot, isNumbered, putItem, addedRows, applied}
 use Rattle.model.specs.Requests.{unused}
@@ -165,6 +165,8 @@ pub record Holds (s : State) (t : Part) : Type 0 where
   -- "and 32 rows": no more stand, and the two rows of a grant find a place
   pub rowPlaces : length (t .rows) ≡ 32
   pub rows : t .session .rows + 2 * howManyItems isGrant (t .items) ≤ 32
+  -- of these an establishment has 4 at most, two at each of its nodes, and none unless it is begun
+  pub establishments : (e : ℕ) → tally (isOf e) (held t) ≤ cond (within 1 (t .session .begun) e) 4 0
   -- every row names an association of two nodes, so no row's peer is 0, which match answers for none
   pub rowNodes : All (λ r. areNodes (r .node) (r .peers .first) ≡ true) (held t)
   -- "with 8 establishments begun, lost 6"

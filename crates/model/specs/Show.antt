@@ -9,7 +9,7 @@ use Rattle.calculus.specs.declared.answer.ShownAssociation.{ShownAssociation}
 use Rattle.calculus.specs.declared.state.State.{State}
 use Rattle.forms.specs.Bytes.{joined}
 use Rattle.forms.specs.Text.{show, text}
-use Rattle.model.specs.Lists.{All, Rising}
+use Rattle.model.specs.Lists.{those, All, Rising}
 use Rattle.model.specs.Row.{sameAssociation, usersOf}
 use Rattle.model.specs.Requests.{association, shown, shownLines}
 use Rattle.model.specs.Calls.{reported, short, answered}
@@ -20,8 +20,7 @@ isFor out a q x = sameAssociation (x .out) (x .node) (x .peer) out a q
 
 -- the ones of m that are
 abbrev pub allFor : Bool → ℕ → ℕ → List ShownAssociation → List ShownAssociation
-allFor out a q [] = []
-allFor out a q (x ∷ m) = cond (isFor out a q x) (x ∷ allFor out a q m) (allFor out a q m)
+allFor out a q m = those (isFor out a q) m
 
 -- whatever a and q are, m has In(a, q), or Out(a, q), once, with its users, where it stands by the table of users l, and else not
 abbrev pub OneForEach : List ℕ → List ShownAssociation → Type 0

@@ -7,12 +7,11 @@ use mathlib.Core.Option.{Option, none, some}
 use lib.Dec.{eqb}
 use lib.ListN.{length}
 use Rattle.calculus.specs.Number.{isSession}
-use Rattle.calculus.specs.declared.answer.Refusal.{Refusal}
 use Rattle.calculus.specs.declared.packet.Item.{Item}
 use Rattle.calculus.specs.declared.packet.Slot.{Slot}
 use Rattle.calculus.specs.declared.state.Part.{Part}
 use Rattle.calculus.specs.declared.state.State.{State}
-use Rattle.forms.specs.Text.{Form, node, route, «open», step, send, close, show, net, text}
+use Rattle.forms.specs.Text.{Form, node, route, «open», step, send, close, show, net, takeDown, text}
 use Rattle.forms.specs.Read.{read}
 use Rattle.model.specs.Lists.{place, All}
 use Rattle.model.specs.Packet.{hopLimit}
@@ -20,7 +19,7 @@ use Rattle.model.specs.Item.{isWait, howManyItems}
 use Rattle.model.specs.Rules.{establishmentLimit}
 use Rattle.model.specs.State.{fresh, load, isNumbered}
 use Rattle.model.specs.Requests.{spent}
-use Rattle.model.specs.Calls.{answered, Call, roomyCall, call, after, isOwn}
+use Rattle.model.specs.Calls.{answered, Call, roomyCall, call, isAccepted, after, isOwn}
 use Rattle.model.specs.SetUp.{isSetUpItem, itemAt}
 
 -- ---- the ceiling
@@ -44,11 +43,6 @@ ceiling = establishmentLimit * establishmentSteps + establishmentLimit * tripSte
 
 -- ---- the count
 
--- not refused
-abbrev pub isAccepted : Option Refusal → Bool
-isAccepted (some r) = false
-isAccepted none = true
-
 -- what an accepted call of a session with the items l makes of its count n: "since its open on all items but Data"
 abbrev pub formCount : List Slot → ℕ → Option Form → ℕ
 formCount l n (some (node a k has needs)) = n
@@ -59,6 +53,7 @@ formCount l n (some (send u w tag)) = n
 formCount l n (some (close u)) = n
 formCount l n (some show) = n
 formCount l n (some net) = n
+formCount l n (some (takeDown u e)) = n
 formCount l n none = n
 
 -- what the call c on the state s makes of session u's count n
@@ -102,6 +97,7 @@ formOpens u (some (send v w tag)) = false
 formOpens u (some (close v)) = false
 formOpens u (some show) = false
 formOpens u (some net) = false
+formOpens u (some (takeDown v e)) = false
 formOpens u none = false
 
 abbrev pub opens : ℕ → Call → Bool

@@ -12,7 +12,7 @@ use Rattle.calculus.specs.declared.network.Network.{Network}
 use Rattle.calculus.specs.declared.request.Report.{Report}
 use Rattle.calculus.specs.declared.request.Report.the-variants.{NoReport, AllAssociations, WholeNetwork}
 use Rattle.calculus.specs.declared.request.Request as request
-use Rattle.calculus.specs.declared.request.Request.the-variants.{Node, Route, Open, Step, Send, Close, Show, Net}
+use Rattle.calculus.specs.declared.request.Request.the-variants.{Node, Route, Open, Step, Send, Close, Show, Net, Drop}
 use Rattle.calculus.specs.declared.state.Moved.{Moved}
 use Rattle.calculus.specs.declared.state.Part.{Part}
 use Rattle.calculus.specs.declared.state.State.{State}
@@ -21,7 +21,7 @@ use Rattle.forms.specs.declared.read.Parsed.the-variants.{Asks, Refused}
 use Rattle.model.specs.NetworkText.{networkLines}
 use Rattle.model.specs.Row.{stands, raised, lowered}
 use Rattle.model.specs.State.{load, store}
-use Rattle.model.specs.Requests.{Move, refuse, moved, checked, nodeChecks, routeChecks, withNode, withRoute, openMove, stepMove, sendMove, closeMove, shownLines}
+use Rattle.model.specs.Requests.{Move, refuse, moved, checked, nodeChecks, routeChecks, withNode, withRoute, openMove, stepMove, sendMove, closeMove, dropMove, shownLines}
 use Rattle.model.specs.Calls.{Lines, answer, report}
 
 -- ---- a move
@@ -57,6 +57,7 @@ sessionIn (Send u w tag) = u .0
 sessionIn (Close u) = u .0
 sessionIn Show = 1
 sessionIn Net = 1
+sessionIn (Drop u e) = u .0
 
 abbrev pub sessionOf : Parsed → ℕ
 sessionOf (Asks q) = sessionIn q
@@ -72,12 +73,13 @@ requestedOf opened n users t (Send u w tag) = moving t (sendMove w tag t)
 requestedOf opened n users t (Close u) = moving t (closeMove t)
 requestedOf opened n users t Show = staying t Ok
 requestedOf opened n users t Net = staying t Ok
+requestedOf opened n users t (Drop u e) = moving t (dropMove e t)
 
 abbrev pub turnOf : Bool → Network → List ℕ → Part → Parsed → Moved
 turnOf opened n users t (Asks q) = requestedOf opened n users t q
 turnOf opened n users t (Refused r) = staying t (No r)
 
--- the users that it leaves: only a step and a close move them
+-- the users that it leaves: only a step, a close and a drop move them
 unfoldable pub usersWith : Network → List ℕ → Part → request.Request → List ℕ
 usersWith n users t (Node a k) = users
 usersWith n users t (Route a b next) = users
@@ -87,6 +89,7 @@ usersWith n users t (Send u w tag) = users
 usersWith n users t (Close u) = usersAfter users (closeMove t)
 usersWith n users t Show = users
 usersWith n users t Net = users
+usersWith n users t (Drop u e) = usersAfter users (dropMove e t)
 
 abbrev pub usersOf : Network → List ℕ → Part → Parsed → List ℕ
 usersOf n users t (Asks q) = usersWith n users t q
@@ -115,6 +118,7 @@ networkWith n has needs (Send u w tag) = n
 networkWith n has needs (Close u) = n
 networkWith n has needs Show = n
 networkWith n has needs Net = n
+networkWith n has needs (Drop u e) = n
 
 abbrev pub networkOf : Network → List Bool → List Bool → Parsed → Network
 networkOf n has needs (Asks q) = networkWith n has needs q
@@ -130,6 +134,7 @@ reportIn (Send u w tag) = NoReport
 reportIn (Close u) = NoReport
 reportIn Show = AllAssociations
 reportIn Net = WholeNetwork
+reportIn (Drop u e) = NoReport
 
 -- the report that a line asks for
 abbrev pub reportOf : Parsed → Report

@@ -2,7 +2,7 @@
 use borrow.Author.Needs.{needs}
 use mathlib.Core.Path.{refl, _∙_}
 use Rattle.forms.specs.Bytes.{bytes}
-use Rattle.forms.specs.Read.{fields, formWith, routeWith, openWith, stepWith, sendWith, closeWith, showWith, netWith, plainForm}
+use Rattle.forms.specs.Read.{fields, formWith, routeWith, openWith, stepWith, sendWith, closeWith, showWith, netWith, takeDownWith, plainForm}
 use Rattle.calculus.specs.declared.request.Request.the-variants.{Show, Net}
 use Rattle.forms.proofs.Picks.{Left, first, skip, pick, pick-bare, inside}
 use Rattle.forms.proofs.read.read_plain.Statement.{statement}
@@ -104,9 +104,22 @@ abbrev not-net : tie.Else7 → Left
 unfolding plainForm
 not-net c = skip (not-show (c .before .before .before)) _ _ refl (c .before .starts7 .ensures) (c .if7 .left)
 
+sub-drop-at : tie.Need-sub-drop-at
+sub-drop-at c = inside (bytes "(drop") _ (c .before .starts8 .ensures) (c .if8 .taken)
+
 returns-8 : tie.Need-returns-8
 unfolding plainForm
-returns-8 c = c .refused .ensures ∙ rw (not-net (c .before) .same)
+returns-8 c =
+    let c₃ = c .before .before .before in
+    pick (λ l. formWith takeDownWith (fields 10 2 l)) 5 (not-net (c₃ .before .before)) _ refl (c₃ .starts8 .ensures) (c .before .before .if8 .taken) (c .drop-at .ensures)
+
+abbrev not-drop : tie.Else8 → Left
+unfolding plainForm
+not-drop c = skip (not-net (c .before .before .before)) _ _ refl (c .before .starts8 .ensures) (c .if8 .left)
+
+returns-9 : tie.Need-returns-9
+unfolding plainForm
+returns-9 c = c .refused .ensures ∙ rw (not-drop (c .before) .same)
 
 pub read-plain-spec : {M : Type 1} → statement M
 read-plain-spec =
@@ -161,5 +174,12 @@ read-plain-spec =
     (λ c. search needs)
     (λ c κs. search needs)
     returns-7
+    (λ c. search needs)
     (λ c κs. search needs)
-    returns-8)
+    sub-drop-at
+    sub-drop-at
+    (λ c. search needs)
+    (λ c κs. search needs)
+    returns-8
+    (λ c κs. search needs)
+    returns-9)
