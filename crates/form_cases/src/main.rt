@@ -100,6 +100,11 @@ fn put_request(request: Request) {
         }
         Request::Show => put(b"show"),
         Request::Net => put(b"net"),
+        Request::Drop(session, establishment) => {
+            put(b"drop");
+            put_number(session.0 as u64);
+            put_number(establishment as u64);
+        }
     }
 }
 
@@ -142,6 +147,8 @@ fn put_refusals() {
     put_answer(Answer::No(Refusal::Full));
     put_answer(Answer::No(Refusal::Clash));
     put_answer(Answer::No(Refusal::Unsorted));
+    put_answer(Answer::No(Refusal::Busy));
+    put_answer(Answer::No(Refusal::NoSuchTunnel));
 }
 
 fn put_losses() {

@@ -1,5 +1,6 @@
-// What an item is: a wait, a packet with Data, or none.
+// What an item is: a wait, a packet with Data, or none; and the establishment that it names.
 use crate::packet::has_data;
+use crate::packet::has_establishment;
 use calculus::effect::Wait;
 use calculus::packet::Item;
 ghost use mathlib.Core.Path.{_≡_};
@@ -101,5 +102,23 @@ pub fn is_data_item(i: Item) -> bool
         Item::Ack(_, _) => false,
         Item::Dwait(_) => false,
         Item::Ewait(_, _) => false,
+    }
+}
+
+// Whether the item names establishment `e`.
+pub fn names_establishment(i: Item, e: u8) -> bool
+    ensures { λ r. ⌜ r ≡ spec.namesEstablishment e i ⌝ }
+{
+    match i {
+        Item::Free => false,
+        Item::Wire(_, p) => has_establishment(p, e),
+        Item::Out(_, p) => has_establishment(p, e),
+        Item::Up(_, p) => has_establishment(p, e),
+        Item::Est(_, _, f) => f == e,
+        Item::Auth(_, _, f, _) => f == e,
+        Item::Grant(_, _, f, _) => f == e,
+        Item::Ack(_, f) => f == e,
+        Item::Dwait(_) => false,
+        Item::Ewait(_, f) => f == e,
     }
 }

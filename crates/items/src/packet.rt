@@ -129,6 +129,27 @@ pub fn has_data(p: Packet) -> bool
     is_data(payload)
 }
 
+// Whether it is Req(e) or Rep(e).
+pub fn concerns(y: Payload, e: u8) -> bool
+    ensures { λ r. ⌜ r ≡ spec.concerns y e ⌝ }
+{
+    match y {
+        Payload::Req(f) => f == e,
+        Payload::Rep(f) => f == e,
+        Payload::Disc(_) => false,
+        Payload::Done => false,
+        Payload::Data(_) => false,
+    }
+}
+
+// Whether the packet carries Req(e) or Rep(e).
+pub fn has_establishment(p: Packet, e: u8) -> bool
+    ensures { λ r. ⌜ r ≡ spec.concerns (p .payload) e ⌝ }
+{
+    let payload = p.payload;
+    concerns(payload, e)
+}
+
 pub fn is_data_or_done(y: Payload) -> bool
     ensures { λ r. ⌜ r ≡ spec.isDataOrDone y ⌝ }
 {

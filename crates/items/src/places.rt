@@ -2,6 +2,7 @@
 use crate::item::is_data_item;
 use crate::item::is_free;
 use crate::item::is_some_wait;
+use crate::item::names_establishment;
 use crate::item::same_wait;
 use crate::item::wait_in;
 use calculus::effect::Wait;
@@ -12,7 +13,7 @@ use lookups::blank::blank_slot;
 ghost use mathlib.Core.Path.{_≡_};
 ghost use mathlib.Core.Bool.{cond};
 ghost use Prim.Native.Nat.{_+_, _≤_};
-ghost use lib.Dec.{leb};
+ghost use lib.Dec.{leb, ltb};
 ghost use lib.ListN.{set};
 ghost use Rattle.model.specs.Lists as lists;
 ghost use Rattle.model.specs.Item as spec;
@@ -53,6 +54,13 @@ fn holds_data(s: Slot) -> bool
     is_data_item(item)
 }
 
+fn holds_name(e: u8, s: Slot) -> bool
+    ensures { λ r. ⌜ r ≡ spec.namesEstablishment e (s .item) ⌝ }
+{
+    let item = s.item;
+    names_establishment(item, e)
+}
+
 // `n`, and one more where the place holds a packet with Data.
 fn count_one(n: usize, s: Slot) -> usize
     requires { ⌜ n ≤ 15 ⌝ }
@@ -64,11 +72,13 @@ fn count_one(n: usize, s: Slot) -> usize
     n
 }
 
-// What is looked for among a session's places: a free one, that of an item's number, that of a wait.
+// What is looked for among a session's places: a free one, that of an item's number, that of a wait, one whose item names an
+// establishment.
 pub enum Wanted {
     Vacancy,
     Number(ItemNumber),
     That(Wait),
+    Naming(u8),
 }
 
 fn is_wanted(w: Wanted, s: Slot) -> bool
@@ -78,6 +88,7 @@ fn is_wanted(w: Wanted, s: Slot) -> bool
         Wanted::Vacancy => is_vacant(s),
         Wanted::Number(k) => is_numbered(k, s),
         Wanted::That(wait) => holds_wait(wait, s),
+        Wanted::Naming(e) => holds_name(e, s),
     }
 }
 
@@ -114,6 +125,14 @@ pub fn is_full(items: [Slot; 16]) -> bool
         i += 1;
     }
     true
+}
+
+// Whether an item names establishment `e`.
+pub fn is_busy(items: [Slot; 16], e: u8) -> bool
+    ensures { λ r. ⌜ r ≡ ltb 0 (spec.howManyItems (spec.namesEstablishment e) items) ⌝ }
+{
+    let at = find(items, Wanted::Naming(e));
+    at < 16
 }
 
 // The places with `s` at `at`; unchanged where that is past them.

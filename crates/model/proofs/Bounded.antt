@@ -116,7 +116,7 @@ module _ (network : Network) (t : Part) (h : Sane t) (n : ℕ) (k : Tracked netw
   unfolding dropMove dropping
   counts-drop e =
       checked-either (λ (m : Move). Counts network n n (seenMove t m)) refuse (λ r. k) _
-      (λ w. record { few = k .few; items = k .items; rows = rw (held-dropping e t (h .roomy .whole)) (all-those _ (isOther e) (held t) (k .rows)) })
+      (λ w. record { few = k .few; items = k .items; rows = rw (held-dropping e t) (all-those _ (isOther e) (held t) (k .rows)) })
 
   -- ---- a line
 

@@ -294,7 +294,7 @@ module _ (t : State) (h : Sound t) (u e : ℕ) where
       record {
         numbered = hu;
         others = λ v hv ne. ap held (stored-others t (h .good .sized) u hu (dropping e p) (f .whole) _ v hv ne);
-        own = ap held (stored-own t (h .good .sized) u hu (dropping e p) (f .whole) _) ∙ held-dropping e p (h .sane u hu .roomy .whole);
+        own = ap held (stored-own t (h .good .sized) u hu (dropping e p) (f .whole) _) ∙ held-dropping e p;
       })
       (fair-own t (h .good) u hu (Drop (record { 0 = u }) e))
 

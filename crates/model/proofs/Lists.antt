@@ -6,7 +6,7 @@ use mathlib.Core.List.{List, [], _∷_, _++_}
 use Prim.Native.Nat.{ℕ, zero, suc, _+_, _≤_, _<_}
 use native.Mathlib.Nat.{zero-add, add-zero}
 use native.Mathlib.Omega.{arith}
-use lib.ListN.{length, getD, set, take, drop, replicate, length-append}
+use lib.ListN.{length, getD, set, take, drop, replicate, length-append, length-take}
 use Rattle.calculus.proofs.Tests.{either}
 use Rattle.model.specs.Lists.{place, tally, those, All, upFrom}
 use Rattle.model.proofs.Checks.{one}
@@ -177,3 +177,11 @@ take-sets {A} l vs n h =
     ap (λ (m : List A). take (n + length vs) m) (sets-eq vs l n h)
     ∙ take-at (take n l ++ vs) (drop (n + length vs) l) (n + length vs)
     (length-append (take n l) vs ∙ ap (λ (k : ℕ). k + length vs) (length-take-le n l (omega arith)))
+
+-- those of the first n, stored from the first place on, are the front
+pub take-those : {A : Type 0} (f : A → Bool) (n : ℕ) (l : List A)
+    → let m = those f (take n l) in
+    take (length m) (sets l 0 m) ≡ m
+take-those f n l =
+    let m = those f (take n l) in
+    rw zero-add at (take-sets l m 0 (omega (arith, those-length f (take n l), length-take n l)))

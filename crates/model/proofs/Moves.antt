@@ -5,7 +5,7 @@ use mathlib.Core.List.{List, [], _++_, append-nil}
 use Prim.Native.Nat.{ℕ, _+_, _-_, _≤_, _<_}
 use native.Mathlib.Omega.{arith}
 use native.Mathlib.Decide.{decLt}
-use native.Mathlib.Nat.{zero-add, add-zero}
+use native.Mathlib.Nat.{add-zero}
 use lib.ListN.{length, take, length-take}
 use lib.Seq.{sets, length-sets}
 use Rattle.calculus.proofs.Tests.{never}
@@ -23,7 +23,7 @@ use Rattle.model.specs.State.{placed, addedRows, sessionAfter, applied}
 use Rattle.model.specs.Requests.{Change, Move, refuse, moved, noRows, unused, nextNumber, withItem, opening, openMove, stepped, stepAt, stepMove, sending, sendMove, closing, closeMove, dropping, dropMove}
 use Rattle.model.proofs.Checks.{checked-either}
 use Rattle.model.proofs.Parts.{Whole}
-use Rattle.model.proofs.Lists.{take-sets, those-length}
+use Rattle.model.proofs.Lists.{take-sets, take-those}
 use Rattle.model.proofs.Users.{many-append, many-split}
 use Rattle.model.proofs.Weights.{length-put, length-after}
 
@@ -58,12 +58,9 @@ applied-whole t h at f =
     )
 
 -- a drop leaves the rows of the other establishments
-pub held-dropping : (e : ℕ) (t : Part) → Whole t → held (dropping e t) ≡ those (isOther e) (held t)
+pub held-dropping : (e : ℕ) (t : Part) → held (dropping e t) ≡ those (isOther e) (held t)
 unfolding dropping
-held-dropping e t h =
-    rw zero-add at
-    (take-sets (t .rows) (those (isOther e) (held t)) 0
-    (omega (arith, h .rows, those-length (isOther e) (held t), length-take (t .session .rows) (t .rows))))
+held-dropping e t = take-those (isOther e) (t .session .rows) (t .rows)
 
 pub dropping-whole : (e : ℕ) (t : Part) → Whole t → Whole (dropping e t)
 unfolding dropping
@@ -140,7 +137,7 @@ module _ (t : Part) (h : Whole t) where
       (λ k.
       record {
         whole = dropping-whole e t h;
-        rows = λ out a q. rw (held-dropping e t h) (omega (arith, many-split out a q (isOf e) (held t)));
+        rows = λ out a q. rw (held-dropping e t) (omega (arith, many-split out a q (isOf e) (held t)));
         went = λ out a q. omega (arith, many-split out a q (isOf e) (held t));
         came = omega arith;
         opens = λ o u. never (sym (k .0) ∙ u);

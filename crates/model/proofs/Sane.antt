@@ -234,7 +234,7 @@ module _ (t : Part) (h : Sane t) where
   unfolding dropping
   roomy-dropping e =
       let k = h .roomy in
-      let left = held-dropping e t (k .whole) in
+      let left = held-dropping e t in
       record {
         whole = dropping-whole e t (k .whole);
         waits = k .waits;
@@ -251,7 +251,7 @@ module _ (t : Part) (h : Sane t) where
   sane-dropping e u =
       record {
         roomy = roomy-dropping e;
-        rows = rw (held-dropping e t (h .roomy .whole)) (all-those RowNamed (isOther e) (held t) (h .rows));
+        rows = rw (held-dropping e t) (all-those RowNamed (isOther e) (held t) (h .rows));
         items = h .items;
         ends = h .ends;
         last = h .last;

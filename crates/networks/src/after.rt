@@ -63,6 +63,7 @@ fn network_with(n: Network, has: [bool; 64], needs: [bool; 64], q: Request) -> N
         Request::Close(_) => n,
         Request::Show => n,
         Request::Net => n,
+        Request::Drop(_, _) => n,
     }
 }
 

@@ -43,6 +43,7 @@ fn report_in(q: Request) -> Report
         Request::Close(_) => Report::NoReport,
         Request::Show => Report::AllAssociations,
         Request::Net => Report::WholeNetwork,
+        Request::Drop(_, _) => Report::NoReport,
     }
 }
 

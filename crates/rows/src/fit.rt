@@ -1,11 +1,12 @@
 // What one row is to a packet, and to an association.
 use calculus::packet::Packet;
-use calculus::packet::Payload;
 use calculus::session::Peers;
 use calculus::session::Row;
+use items::packet::concerns;
 ghost use mathlib.Core.Path.{_≡_};
 ghost use mathlib.Core.Bool.{not, _&&_};
 ghost use lib.Dec.{eqb};
+ghost use Rattle.model.specs.Packet.{concerns};
 ghost use Rattle.model.specs.Row as spec;
 
 // What a match is asked for: the packet's row at `node`, out of it or into it.
@@ -24,27 +25,15 @@ fn same_way(x: bool, y: bool) -> bool
     !y
 }
 
-fn skips(y: Payload, e: u8) -> bool
-    ensures { λ r. ⌜ r ≡ spec.skips y e ⌝ }
-{
-    match y {
-        Payload::Req(f) => f == e,
-        Payload::Rep(f) => f == e,
-        Payload::Disc(_) => false,
-        Payload::Done => false,
-        Payload::Data(_) => false,
-    }
-}
-
 // Whether the row is at `a`, its filter is the packet's, and it is not skipped.
 fn applies(a: u8, p: Packet, r: Row) -> bool
-    ensures { λ x. ⌜ x ≡ (eqb (r .node) a && eqb (r .source) (p .source) && eqb (r .destination) (p .destination) && not (spec.skips (p .payload) (r .establishment))) ⌝ }
+    ensures { λ x. ⌜ x ≡ (eqb (r .node) a && eqb (r .source) (p .source) && eqb (r .destination) (p .destination) && not (concerns (p .payload) (r .establishment))) ⌝ }
 {
     let payload = p.payload;
     if r.node == a {
         if r.source == p.source {
             if r.destination == p.destination {
-                return !skips(payload, r.establishment);
+                return !concerns(payload, r.establishment);
             }
         }
     }

@@ -1,4 +1,5 @@
-// A session's rows: match, and the association that a row names.
+// A session's rows: match, the association that a row names, and the establishment that added it.
 mod fit;
 mod lent;
+pub mod picked;
 pub mod row;

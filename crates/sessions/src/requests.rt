@@ -1,5 +1,5 @@
-// A session's requests. Each is a function of the network, the users and the session's own part; its refusals stand in document
-// 01's order.
+// A session's requests. Each is a function of the network, the users and the session's own part; its refusals stand in the documents'
+// order.
 use calculus::answer::Answer;
 use calculus::answer::Refusal;
 use calculus::network::Network;
@@ -17,11 +17,13 @@ use items::item::is_wait;
 use items::packet::bare;
 use items::places::Wanted;
 use items::places::find;
+use items::places::is_busy;
 use items::places::is_full;
 use items::places::put_item;
 use lookups::network::given;
 use lookups::network::is_gateway;
 use lookups::users::lower;
+use rows::picked::picked;
 use rules::rule::rule;
 ghost use mathlib.Core.Path.{_≡_};
 ghost use mathlib.Core.Bool.{false, not, _&&_, _||_};
@@ -252,6 +254,61 @@ pub fn close(users: &mut [u16; 2048], t: Part, blank: Part) -> Moved
     let rows = t.rows;
     lower(users, rows, s.rows);
     let part = emptied(blank, t);
+    Moved {
+        opens: false,
+        answer: Answer::Closed,
+        part,
+    }
+}
+
+// ---- drop
+
+// The part without the rows of establishment `e`.
+fn dropping(t: Part, e: u8) -> Part
+    ensures { λ r. ⌜ r ≡ spec.dropping e t ⌝ }
+{
+    let s = t.session;
+    let stage = s.stage;
+    let last = s.last;
+    let items = t.items;
+    let old_rows = t.rows;
+    let kept = picked(false, e, old_rows, s.rows);
+    let rows = kept.places;
+    Part {
+        session: Session {
+            stage,
+            client: s.client,
+            server: s.server,
+            begun: s.begun,
+            rows: kept.held,
+            last,
+        },
+        items,
+        rows,
+    }
+}
+
+// drop u e, where `t` is u's part: refusals 7, 16, 17.
+pub fn drop(users: &mut [u16; 2048], t: Part, e: u8) -> Moved
+    ensures { λ r. ⌜ Moves (now (users .entry)) t (spec.dropMove e t) (now (users .exit)) r ⌝ }
+{
+    let s = t.session;
+    let stage = s.stage;
+    let items = t.items;
+    let rows = t.rows;
+    if is_unused(stage) {
+        return refused(t, Refusal::Idle);
+    }
+    if is_busy(items, e) {
+        return refused(t, Refusal::Busy);
+    }
+    let gone = picked(true, e, rows, s.rows);
+    if gone.held == 0 {
+        return refused(t, Refusal::NoSuchTunnel);
+    }
+    let places = gone.places;
+    lower(users, places, gone.held);
+    let part = dropping(t, e);
     Moved {
         opens: false,
         answer: Answer::Closed,

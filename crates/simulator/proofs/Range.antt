@@ -4,7 +4,7 @@ use mathlib.Core.Bool.{true}
 use mathlib.Core.Option.{Option}
 use Rattle.calculus.specs.Number.{isSession}
 use Rattle.calculus.specs.declared.request.Request as request
-use Rattle.calculus.specs.declared.request.Request.the-variants.{Node, Route, Open, Step, Send, Close, Show, Net}
+use Rattle.calculus.specs.declared.request.Request.the-variants.{Node, Route, Open, Step, Send, Close, Show, Net, Drop}
 use Rattle.forms.specs.declared.read.Reading.{Reading}
 use Rattle.forms.specs.Text.{Form}
 use Rattle.forms.specs.Request.{asked}
@@ -21,6 +21,7 @@ own-session (Send u w tag) e = e
 own-session (Close u) e = e
 own-session Show e = refl
 own-session Net e = refl
+own-session (Drop u k) e = e
 
 meant-session : {o : Option Form} {r : Reading} → Meaning o r → isSession (sessionOf (r .parsed)) ≡ true
 meant-session (refuses r h) = refl

@@ -10,6 +10,7 @@ use lookups::blank::blank_part;
 use networks::node::node_answer;
 use networks::route::route_answer;
 use sessions::requests::close;
+use sessions::requests::drop;
 use sessions::requests::open;
 use sessions::requests::send;
 use sessions::requests::step;
@@ -48,6 +49,7 @@ fn session_in(q: Request) -> SessionNumber
         Request::Close(session) => session,
         Request::Show => SessionNumber(1),
         Request::Net => SessionNumber(1),
+        Request::Drop(session, _) => session,
     }
 }
 
@@ -106,6 +108,7 @@ fn requested(opened: bool, n: Network, users: &mut [u16; 2048], t: Part, q: Requ
         Request::Close(_) => closed(users, t),
         Request::Show => staying(t, Answer::Ok),
         Request::Net => staying(t, Answer::Ok),
+        Request::Drop(_, establishment) => drop(users, t, establishment),
     }
 }
 

@@ -37,6 +37,10 @@ returns-8 : tie.Need-returns-8
 unfolding requestedOf usersWith
 returns-8 c = rw (c .before .enum-told3 .given .1) (c .staying4 .ensures, refl)
 
+returns-9 : tie.Need-returns-9
+unfolding requestedOf usersWith
+returns-9 c = rw (c .before .before .before .q6 .given .1) (c .drop .ensures .part, c .drop .ensures .shared)
+
 pub requested-spec : {M : Type 1} → statement M
 requested-spec =
     tie.close
@@ -59,6 +63,8 @@ requested-spec =
     (λ c κs. search needs)
     (λ c. search needs)
     (λ c κs. search needs)
+    (λ c. search needs)
+    (λ c κs. search needs)
     returns
     returns-2
     returns-3
@@ -66,4 +72,5 @@ requested-spec =
     returns-5
     returns-6
     returns-7
-    returns-8)
+    returns-8
+    returns-9)

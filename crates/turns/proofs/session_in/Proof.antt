@@ -27,8 +27,11 @@ returns-7 c = simp (c .enum-told3 .given .1)
 returns-8 : tie.Need-returns-8
 returns-8 c = simp (c .enum-told4 .given .1)
 
+returns-9 : tie.Need-returns-9
+returns-9 c = simp (c .before .q5 .given .1)
+
 pub session-in-spec : {M : Type 1} → statement M
 session-in-spec =
     tie.close
     (tie.spec (λ c. search needs) (λ c. search needs) (λ c. search needs) (λ c. search needs) (λ c. search needs) (λ c. search needs)
-    (λ c. search needs) (λ c. search needs) returns returns-2 returns-3 returns-4 returns-5 returns-6 returns-7 returns-8)
+    (λ c. search needs) (λ c. search needs) (λ c. search needs) returns returns-2 returns-3 returns-4 returns-5 returns-6 returns-7 returns-8 returns-9)

@@ -7,7 +7,7 @@ use Rattle.rows.proofs.fit.applies.Tie as tie
 returns : tie.Need-returns
 returns c =
     simp (
-      c .skips .ensures,
+      c .concerns .ensures,
       eq-eqb _ _ (c .before .if3 .taken),
       eq-eqb _ _ (c .before .before .before .before .if2 .taken),
       eq-eqb _ _ (c .before .before .before .before .before .before .before .if1 .taken),

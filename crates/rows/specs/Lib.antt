@@ -1,0 +1,2 @@
+-- What the contracts of `rows` cite beside the model.
+pub mod Picked
