@@ -73,6 +73,8 @@ refusal-small refusals.Waiting = omega arith
 refusal-small refusals.Full = omega arith
 refusal-small refusals.Clash = omega arith
 refusal-small refusals.Unsorted = omega arith
+refusal-small refusals.Busy = omega arith
+refusal-small refusals.NoSuchTunnel = omega arith
 
 pub made-by-default-width : (n : ℕ) → n < 2 ^ 32 → length (madeByDefaultLine n) ≤ 32
 made-by-default-width n h = simp length-append (omega (arith, width-most 9 n (omega arith)))

@@ -11,9 +11,10 @@ use Rattle.model.specs.Network.{nextHop, covers, hasAllNeeded}
 use Rattle.model.specs.Row.{howMany, admits, usersOf, withUsers}
 use Rattle.model.specs.Rules.{wireRule, outRule, upRule, estRule, authRule, grantRule, ackRule, rule}
 use Rattle.model.specs.State.{load, store, useUp, putItem, itemsAfter, sessionAfter, applied}
-use Rattle.model.specs.Requests.{checked, nodeTurn, routeTurn, opening, openMove, stepped, stepAt, stepMove, sending, sendMove, closing, closeMove, changed, performed, shown}
+use Rattle.model.specs.Requests.{checked, nodeTurn, routeTurn, opening, openMove, stepped, stepAt, stepMove, sending, sendMove, closing, closeMove, dropping, dropMove, changed, performed, shown}
 use Rattle.model.specs.Calls.{requested, answered, replies, after}
 use Rattle.model.specs.Termination.{setUpSteps, afterRounds}
+use Rattle.model.specs.Drop.{events}
 use Rattle.model.specs.Join.{sameText, networkIn, isNetworkText, together, somewhere, linesFrom, join}
 use Rattle.model.specs.JoinListings.{JoinListings}
 use Rattle.model.specs.ListingsHold.{Listings}
@@ -23,5 +24,5 @@ unfolding decimal digitsOf lines listText text starts scan number list fields ha
 joins-hold = record { joined = refl; clash = refl; unsorted = refl; unread = refl; short = refl }
 
 pub listings-hold : Listings
-unfolding decimal digitsOf listText text starts scan number list fields hasAt kindAt nodeAt plainForm formOf read answerText associationLine network.nodeAt nextHop covers hasAllNeeded howMany admits usersOf withUsers wireRule outRule upRule estRule authRule grantRule ackRule rule load store useUp putItem itemsAfter sessionAfter applied checked nodeTurn routeTurn opening openMove stepped stepAt stepMove sending sendMove closing closeMove changed performed shown entriesFrom requested answered replies after setUpSteps afterRounds
-listings-hold = record { aToI = refl; lowestB = refl; lowestF = refl; further = refl; hopCounts = refl; views = refl; steps = refl; furtherSteps = refl; rounds = refl; joins = joins-hold }
+unfolding decimal digitsOf listText text starts scan number list fields hasAt kindAt nodeAt plainForm formOf read answerText associationLine network.nodeAt nextHop covers hasAllNeeded howMany admits usersOf withUsers wireRule outRule upRule estRule authRule grantRule ackRule rule load store useUp putItem itemsAfter sessionAfter applied checked nodeTurn routeTurn opening openMove stepped stepAt stepMove sending sendMove closing closeMove dropping dropMove changed performed shown entriesFrom requested answered replies after setUpSteps afterRounds events
+listings-hold = record { aToI = refl; lowestB = refl; lowestF = refl; further = refl; hopCounts = refl; drops = refl; grantsOfB = refl; views = refl; steps = refl; furtherSteps = refl; rounds = refl; joins = joins-hold }

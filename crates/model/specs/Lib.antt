@@ -25,5 +25,6 @@ pub mod Join
 pub mod Union
 pub mod Listings
 pub mod HopListings
+pub mod DropListings
 pub mod JoinListings
 pub mod ListingsHold

@@ -28,6 +28,8 @@ use Rattle.model.specs.State.{fresh, load}
 use Rattle.model.specs.Calls.{Call, call, linesOf, after, replies, roomyCall}
 use Rattle.model.specs.Noninterference.{View, view}
 use Rattle.model.specs.Termination.{setUpSteps, afterRounds}
+use Rattle.model.specs.Drop.{Event, granted, events}
+use Rattle.model.specs.DropListings.{middleOfThree, nextIsTheSecond, dropListings}
 use Rattle.model.specs.HopListings.{roundInTunnels, hopListings}
 use Rattle.model.specs.JoinListings.{JoinListings}
 use Rattle.model.specs.Listings.{Exchange, Listing, listings, listingA, listingB, listingC, listingF, throughGateway, dataInFirstOfThree, bareOutAgain, threeTunnels, waitsLeft, furtherExamples}
@@ -290,9 +292,41 @@ onlyWaitsAndData =
       };
     }
 
+-- with three tunnels, after the drop of the middle one: the rows of the others stay in their order, and so does all else
+abbrev pub middleDropped : Moment
+middleDropped =
+    record {
+      calls = take 82 middleOfThree;
+      sees = record {
+        stage = Stage.Open;
+        ends = some (1, 4);
+        items = item 72 (Wire 2 (packet 1 4 (Data 77) 31 (header 2 3 321 32))) ∷ [];
+        rows = row 1 true 1 4 2 1 ∷ row 1 false 4 1 2 1 ∷ row 2 true 4 1 1 1 ∷ row 2 false 1 4 1 1
+            ∷ row 3 true 1 4 4 3 ∷ row 3 false 4 1 4 3 ∷ row 4 true 4 1 3 3 ∷ row 4 false 1 4 3 3
+            ∷ [];
+        begun = 3;
+        last = 72;
+      };
+    }
+
+-- after the drop of the only tunnel so far
+abbrev pub onlyOneDropped : Moment
+onlyOneDropped =
+    record {
+      calls = take 33 nextIsTheSecond;
+      sees = record {
+        stage = Stage.SettingUp;
+        ends = some (1, 4);
+        items = item 20 (Wire 3 (packet 1 4 (Disc 2) 31 inNoTunnel)) ∷ [];
+        rows = [];
+        begun = 1;
+        last = 20;
+      };
+    }
+
 abbrev pub moments : List Moment
 moments = beforeAck ∷ endOfB ∷ endOfF ∷ middleOfC ∷ endOfC ∷ discOfAnAck ∷ endOfThreeTunnels ∷ sentOutAgain ∷ fewerBySending ∷ fewerBare ∷ beforeThe33rd
-    ∷ onlyWaitsAndData ∷ []
+    ∷ onlyWaitsAndData ∷ middleDropped ∷ onlyOneDropped ∷ []
 
 -- ---- how many steps session 1 took
 
@@ -310,6 +344,10 @@ pub record Listings : Type 0 where
   pub further : map outputs furtherExamples ≡ map expected furtherExamples
   -- #108's
   pub hopCounts : map outputs hopListings ≡ map expected hopListings
+  -- #109's
+  pub drops : map outputs dropListings ≡ map expected dropListings
+  -- what Drops asks for is met: B's grants are the two of its establishment, and nothing else adds or removes rows
+  pub grantsOfB : events fresh (map callOf listingB) ≡ granted 1 1 ∷ granted 1 1 ∷ []
   -- what no answer shows: stages, ends, items with their contents, rows in their order of age
   pub views : map (λ m. seenBehind (m .calls)) moments ≡ map (λ m. m .sees) moments
   -- #103's count behind A to I: C's steps of Data are not in it, A's second open begins it anew, H's close and session 2 leave it
