@@ -241,7 +241,7 @@ module _ (t : Part) (h : Sane t) where
         places = k .places;
         tags = k .tags;
         actives = k .actives;
-        begun = k .begun;
+        begun = omega (arith, k .begun);
         counted = ap length left;
         rows = λ w. rw left (omega (arith, k .rows w, tally-split (isOf e) (λ r. w (r .establishment)) (held t)));
       }

@@ -91,6 +91,14 @@ olderRowMatches =
     ∷ "(step 1 58)" ⇒ "(made 59)" ∷ "(drop 1 3)" ⇒ "(closed)" ∷ "(step 1 59)" ⇒ "(made 60)"
     ∷ []
 
+-- data comes to node 2 from node 3 when the tunnel that it is in and the older row's are gone: a row of the second establishment still has
+-- the peer 3, but none matches the data
+abbrev pub admittedAndNotMatched : Listing
+admittedAndNotMatched =
+    take 70 roundInTunnels ++ "(drop 1 3)" ⇒ "(closed)" ∷ "(drop 1 1)" ⇒ "(closed)" ∷ "(step 1 65)" ⇒ "(made 66)" ∷ "(step 1 66)" ⇒ "(made 67)"
+    ∷ "(step 1 67)" ⇒ "(lost 5)"
+    ∷ []
+
 -- with drops a gateway on the circle can be without a row: a packet with no hops left is lost 2 there as well, and one that leaves bare
 -- with none left is lost 1
 abbrev pub noHopsAndNoRow : Listing
@@ -102,4 +110,4 @@ bareWithNoHops = take 189 roundInTunnels ++ "(drop 1 3)" ⇒ "(closed)" ∷ "(st
 abbrev pub dropListings : List Listing
 dropListings =
     atEveryPlace ∷ halfATunnel ∷ busyUntilAClose ∷ oneOfTwoSessions ∷ middleOfThree ∷ nextIsTheSecond ∷ doneInADroppedTunnel ∷ doneAtAGateway
-    ∷ olderRowMatches ∷ noHopsAndNoRow ∷ bareWithNoHops ∷ []
+    ∷ olderRowMatches ∷ admittedAndNotMatched ∷ noHopsAndNoRow ∷ bareWithNoHops ∷ []

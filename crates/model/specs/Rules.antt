@@ -95,10 +95,7 @@ onward (Exact next) p = writes (Wire next p)
 onward (Default next) p = only (WroteByDefault (Wire next p))
 onward Missing p = lost NoRoute
 
--- wire(a, packet, h), where h is the count in use and `look` gives a's next hop for a node: "the first that fits". No list of calls tells
--- the order of lost 1 and lost 2: bare Data or Done is lost at the first gateway. From its source it comes there before its 32 hops are
--- over, or never, with one of the 32 nodes a gateway; sent out again with no row it is at one, behind at most 8 tunnels, with 24 hops left
--- or more
+-- wire(a, packet, h), where h is the count in use and `look` gives a's next hop for a node: "the first that fits"
 unfoldable pub wireRule : Bool → (ℕ → NextHop) → Session → ℕ → Packet → Effect
 wireRule gateway look s a p =
     cond (discovers gateway (s .server) a (p .payload))
@@ -141,8 +138,7 @@ stripped h = record { first = cond (isBare h) 0 (h .from) }
 abbrev pub admitted : (ℕ → ℕ → Bool) → List Row → ℕ → Header → Bool
 admitted standing rows a h = let q = h .from in isBare h || (standing a q && admits rows a q)
 
--- "the matching in row's peer must be q, or with no row q must be none". No list of calls comes to a header that is admitted and
--- matches no row
+-- "the matching in row's peer must be q, or with no row q must be none"
 abbrev pub matched : List Row → ℕ → Packet → Bool
 matched rows a p = eqb (newest rows false a p .first) (stripped (p .header) .first)
 
