@@ -1,16 +1,15 @@
 -- Walks over a list from its front: a search that stops at the first place, and a count. Assumes nothing.
-use mathlib.Core.Path.{_≡_, refl, sym, ap, _∙_}
+use mathlib.Core.Path.{_≡_, refl, sym, ap}
 use mathlib.Core.Bool.{Bool, true, false, cond}
 use mathlib.Core.List.{List, [], _∷_}
 use Prim.Native.Nat.{ℕ, suc, _+_, _≤_, _<_}
 use native.Mathlib.Nat.{zero-add}
 use native.Mathlib.Numerals.{add-one}
 use native.Mathlib.Omega.{arith}
-use lib.Dec.{leb, ltb}
+use lib.Dec.{leb}
 use lib.ListN.{length, getD, drop, drop-of-length-le}
 use lib.Seq.{drop-cons}
-use borrow.Author.Tests.{le-leb, lt-ltb, le-ltb, ltb-true, ltb-false}
-use Rattle.calculus.proofs.Tests.{Way, is, isnt, way}
+use borrow.Author.Tests.{le-leb}
 use Rattle.model.specs.Lists.{place, tally}
 
 -- f holds of none of the first i elements
@@ -25,19 +24,6 @@ pub record Counted {A : Type 0} (f : A → Bool) (l : List A) (n i : ℕ) : Type
 pub place-never : {A : Type 0} (l : List A) → place (λ a. false) l ≡ length l
 place-never [] = refl
 place-never (a ∷ l) = ap suc (place-never l)
-
--- what is counted is found
-pub place-some : {A : Type 0} (f : A → Bool) (l : List A) → ltb (place f l) (length l) ≡ ltb 0 (tally f l)
-place-some f [] = refl
-place-some f (a ∷ l) = go (f a) (place-some f l)
-  where
-    found : ltb (place f l) (length l) ≡ ltb 0 (tally f l) → Way (ltb (place f l) (length l)) → ltb (suc (place f l)) (suc (length l)) ≡ ltb 0 (tally f l)
-    found e (is w) = lt-ltb (suc (place f l)) (suc (length l)) (omega (arith, ltb-true (place f l) (length l) w)) ∙ sym w ∙ e
-    found e (isnt w) = le-ltb (suc (place f l)) (suc (length l)) (omega (arith, ltb-false (place f l) (length l) w)) ∙ sym w ∙ e
-
-    go : (b : Bool) → ltb (place f l) (length l) ≡ ltb 0 (tally f l) → ltb (cond b 0 (suc (place f l))) (suc (length l)) ≡ ltb 0 (cond b 1 0 + tally f l)
-    go true e = rw (lt-ltb 0 (suc (length l)) (omega arith), lt-ltb 0 (1 + tally f l) (omega arith))
-    go false e = rw zero-add (found e (way (ltb (place f l) (length l))))
 
 module _ {A : Type 0} {f : A → Bool} {l : List A} where
   pub sought-none : Sought f l 0

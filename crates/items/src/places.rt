@@ -72,13 +72,11 @@ fn count_one(n: usize, s: Slot) -> usize
     n
 }
 
-// What is looked for among a session's places: a free one, that of an item's number, that of a wait, one whose item names an
-// establishment.
+// What is looked for among a session's places: a free one, that of an item's number, that of a wait.
 pub enum Wanted {
     Vacancy,
     Number(ItemNumber),
     That(Wait),
-    Naming(u8),
 }
 
 fn is_wanted(w: Wanted, s: Slot) -> bool
@@ -88,7 +86,6 @@ fn is_wanted(w: Wanted, s: Slot) -> bool
         Wanted::Vacancy => is_vacant(s),
         Wanted::Number(k) => is_numbered(k, s),
         Wanted::That(wait) => holds_wait(wait, s),
-        Wanted::Naming(e) => holds_name(e, s),
     }
 }
 
@@ -127,12 +124,20 @@ pub fn is_full(items: [Slot; 16]) -> bool
     true
 }
 
-// Whether an item names establishment `e`.
+// Whether an item names establishment `e`. A walk of its own: as one more thing that `find` is asked for, it would have the compiler
+// unroll the walk of every step.
 pub fn is_busy(items: [Slot; 16], e: u8) -> bool
     ensures { λ r. ⌜ r ≡ ltb 0 (spec.howManyItems (spec.namesEstablishment e) items) ⌝ }
 {
-    let at = find(items, Wanted::Naming(e));
-    at < 16
+    let mut i: usize = 0;
+    while i < 16 {
+        let slot = items[i];
+        if holds_name(e, slot) {
+            return true;
+        }
+        i += 1;
+    }
+    false
 }
 
 // The places with `s` at `at`; unchanged where that is past them.

@@ -1,18 +1,36 @@
--- `places::is_busy` meets its contract: what is found stands at one of the places. Assumes nothing.
+-- `places::is_busy` meets its contract. Assumes nothing.
 use borrow.Author.Needs.{needs}
-use mathlib.Core.Path.{_≡_}
-use lib.ListN.{length}
+use Prim.Native.Nat.{_-_}
+use lib.Seq.{take-all}
+use Rattle.calculus.proofs.Tests.{join}
 use Rattle.model.specs.Item.{namesEstablishment}
-use Rattle.items.proofs.Walks.{place-some}
+use Rattle.items.proofs.Searches.{Unmet, unmet-none, unmet-more, unmet-here, unmet-end}
 use Rattle.items.proofs.places.is_busy.Statement.{statement}
 use Rattle.items.proofs.places.is_busy.Tie as tie
 
-returns : tie.Need-returns
+abbrev Inv-loop : tie.InvT-loop
+Inv-loop e items i₀ i = Unmet (λ s. namesEstablishment e (s .item)) 16 items i
+
+abbrev μ-loop : tie.MeasureT-loop
+μ-loop e items i₀ i = 16 - i
+
+returns : tie.Need-returns Inv-loop μ-loop
 returns c =
-    let e = c .before .args .e in
-    let items = c .before .args .items in
-    let n : length items ≡ 16 = search needs in
-    rw (c .find .ensures, ← n) (place-some (λ s. namesEstablishment e (s .item)) items)
+    let c₄ = c .before .before .before .before in
+    rw (take-all 16 (c₄ .before .args .t1) (search needs)) at
+    (unmet-here (c₄ .loop .inv) _ (search needs) (c .before .before .before .loop-test .taken) (join (c .before .holds-name .ensures) (c .if1 .taken)))
+
+loop-again : tie.Need-loop-again Inv-loop μ-loop
+loop-again c =
+    unmet-more (c .before .before .before .before .loop .inv) _ (search needs) (c .before .before .before .loop-test .taken)
+    (join (c .before .holds-name .ensures) (c .if1 .left))
+
+returns-2 : tie.Need-returns-2 Inv-loop μ-loop
+returns-2 c =
+    rw (take-all 16 (c .before .before .args .t1) (search needs)) at (unmet-end (c .before .loop .inv) (search needs))
 
 pub is-busy-spec : {M : Type 1} → statement M
-is-busy-spec = tie.close (tie.spec (λ c κs. search needs) returns)
+is-busy-spec =
+    tie.close
+    (tie.spec Inv-loop μ-loop (λ c. unmet-none) (λ c. search needs) (λ c. search needs) (λ c κs. search needs) returns (λ c. search needs)
+    (λ c. search needs) loop-again returns-2)

@@ -5,7 +5,7 @@ use mathlib.Core.Bool.{false}
 use Rattle.calculus.proofs.Tests.{join}
 use Rattle.model.specs.Row.{names, howMany}
 use Rattle.model.specs.Row as row
-use Rattle.rows.proofs.Searches.{Unmet, unmet-none, unmet-more, unmet-here, unmet-past, unmet-end}
+use Rattle.items.proofs.Searches.{Unmet, unmet-none, unmet-more, unmet-here, unmet-past, unmet-end}
 use Rattle.rows.proofs.row.admits.Statement.{statement}
 use Rattle.rows.proofs.row.admits.Tie as tie
 
