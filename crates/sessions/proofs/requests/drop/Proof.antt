@@ -4,7 +4,7 @@ use borrow.Author.Needs.{needs}
 use mathlib.Core.Path.{refl, sym, ap, _∙_}
 use Rattle.calculus.proofs.Tests.{join}
 use Rattle.model.specs.Requests.{dropMove, checked}
-use Rattle.model.specs.Row.{isOf}
+use Rattle.model.specs.Row.{isOf, lowered}
 use Rattle.model.proofs.Lists.{take-those}
 use Rattle.rows.specs.declared.picked.Rows.{Rows}
 use Rattle.sessions.proofs.requests.drop.Statement.{statement}
@@ -48,7 +48,7 @@ returns-4 c =
     )
     (record {
       part = simp (c .dropping .ensures);
-      shared = rw (c₆ .picked .ensures, take-those (isOf e) (t .session .rows) (t .rows)) at (c .before .lower .ensures);
+      shared = c .before .lower .ensures ∙ ap (lowered _) (rw (c₆ .picked .ensures) (take-those (isOf e) (t .session .rows) (t .rows)));
     })
 
 pub drop-spec : {M : Type 1} → statement M
