@@ -217,6 +217,8 @@ fn zero_is_no_node() {
         ("(step 1 0)", "(no 2)"),
         ("(send 0 0 1)", "(no 2)"),
         ("(close 0)", "(no 2)"),
+        ("(drop 0 1)", "(no 2)"),
+        ("(drop 1 0)", "(no 2)"),
     ]);
     let defaults = accepted(["(route 1 0 2)", "(route 2 0 1)"]);
     let nodes = accepted(["(node 1 host (has 0) (needs))", "(node 2 host (has) (needs 0))"]);

@@ -1,5 +1,5 @@
 //! A session driven to its last number, on the program and on the second implementation: refusal 10, its place in the
-//! order of refusals, and the set-up that it stops (#103).
+//! order of refusals, the set-up that it stops (#103), and drops, which it does not refuse (#109).
 
 use simulator_tests::compare::difference;
 use simulator_tests::listing::{exchanges, Listing};
@@ -172,4 +172,48 @@ fn open_to_999999() {
         ("(send 1 0 7)", "(no 10)"),
     ]);
     check_after(999_996, &[calls, close_of_spent()].concat());
+}
+
+/// A drop writes no item, so spent numbers are nothing to it: 16 while est 1000000 can no longer be stepped, and 17 above it.
+#[test]
+fn busy_for_ever_at_1000000() {
+    let calls = exchanges(&[
+        ("(open 1 1 2)", "(made 999997)"),
+        ("(step 1 999997)", "(made 999998)"),
+        ("(drop 1 1)", "(no 17)"),
+        ("(step 1 999998)", "(made 999999 1000000)"),
+        ("(step 1 1000000)", "(no 10)"),
+        ("(drop 1 1)", "(no 16)"),
+        ("(drop 1 2)", "(no 17)"),
+    ]);
+    check_after(999_996, &[calls, close_of_spent()].concat());
+}
+
+/// The tunnel of a spent session is dropped, and only that: its Data pends. Items of node 2 are moved by default.
+#[test]
+fn drop_at_999999() {
+    let begin = exchanges(&[
+        ("(open 1 1 2)", "(made 999973)"),
+        ("(step 1 999973)", "(made 999974)"),
+        ("(step 1 999974)", "(made 999975 999976)"),
+        ("(step 1 999976)", "(made 999977 999978)"),
+        ("(step 1 999977)", "(made 999979)"),
+        ("(step 1 999979)", "(made 999980 default)"),
+    ]);
+    let done = exchanges(&[
+        ("(step 1 999991)", "(made 999992)"),
+        ("(step 1 999992)", "(made 999993 default)"),
+        ("(step 1 999993)", "(made 999994)"),
+        ("(step 1 999994)", "(opened)"),
+    ]);
+    let end = exchanges(&[
+        ("(step 1 999995)", "(no 10)"),
+        ("(drop 1 1)", "(closed)"),
+        ("(show)", "(end)"),
+        ("(drop 1 1)", "(no 17)"),
+        ("(step 1 999995)", "(no 10)"),
+        ("(step 1 999994)", "(no 11)"),
+    ]);
+    let set_up = [begin, steps_below(1, 999_981..=999_991), done].concat();
+    check_after(999_972, &[set_up, sends(999_995..=999_999), end, close_of_spent()].concat());
 }

@@ -118,6 +118,12 @@ fn sessions() {
         ("(send 0 0 7)", "(no 2)"),
         ("(send 9 0 7)", "(no 2)"),
         ("(send 8 0 7)", "(made 3)"),
+        ("(drop 0 1)", "(no 2)"),
+        ("(drop 9 1)", "(no 2)"),
+        ("(drop 257 1)", "(no 2)"),
+        ("(drop 4294967297 1)", "(no 2)"),
+        ("(drop 10000000001 1)", "(no 1)"),
+        ("(drop 8 1)", "(no 17)"),
         ("(close 0)", "(no 2)"),
         ("(close 9)", "(no 2)"),
         ("(close 257)", "(no 2)"),
@@ -161,6 +167,21 @@ fn items() {
     ]);
 }
 
+/// All of the range before and while establishment 1 is busy: no other number is taken for it.
+#[test]
+fn establishments() {
+    let numbers = |first: &'static str| {
+        let above = ["0", "9", "10", "257", "65537", "4294967297", "9999999999"].map(|number| (number, "(no 2)"));
+        let within = ["2", "3", "4", "5", "6", "7", "8"].map(|number| (number, "(no 17)"));
+        let drops = [&above[..], &within, &[("1", first), ("10000000001", "(no 1)")]].concat();
+        drops.into_iter().map(|(number, answer)| (format!("(drop 1 {number})"), answer.to_string()))
+    };
+    let network = NETWORK.into_iter().chain([("(open 1 1 2)", "(made 1)"), ("(step 1 1)", "(made 2)")]);
+    let calls = network.map(|(call, answer)| (call.to_string(), answer.to_string()));
+    let begin = [("(step 1 2)".to_string(), "(made 3 4)".to_string())];
+    check(&calls.chain(numbers("(no 17)")).chain(begin).chain(numbers("(no 16)")).collect::<Vec<_>>());
+}
+
 #[test]
 fn sides_and_tags() {
     on_network(&[
@@ -189,7 +210,11 @@ const NO_FORMS: &str = "| |(|)|()|( )|show|(show|show)|(show))|((show)|(show )|(
     (show) (show)|(Show)|(SHOW)|(shows)|(sho)|(show 1)|(show)\r|\r|(show)\0|\0(show)|(sh\0ow)|(show)\t|(show\t)|(sh\u{f6}w)|\
     \u{feff}(show)|net|(net|net)|(net))|(net )|( net)|(net) |(net)(net)|(Net)|(nets)|(ne)|(net 1)|(net 0)|(net ())|(net)\r|\
     (close)|(close )|(close 1 )|(close  1)|(close 1 1)|(close\t1)|(close 01)|(close 00)|(close +1)|\
-    (close -1)|(close 1.0)|(close 0x1)|(close 1a)|(close a)|(close (1))|(close1)|(close 1|close 1|(step 1)|(step 1 )|\
+    (close -1)|(close 1.0)|(close 0x1)|(close 1a)|(close a)|(close (1))|(close1)|(close 1|close 1|\
+    (drop)|(drop )|(drop 1)|(drop 1 )|(drop 1 1 )|(drop 1 2 3)|(drop  1 1)|(drop 1  1)|( drop 1 1)|(drop\t1 1)|(drop 1\t1)|(drop 01 1)|(drop 1 01)|\
+    (drop 1 00)|(drop 00 1)|(drop 1 +1)|(drop 1 -1)|(drop 1 1a)|(drop 1 a)|(drop 1 (1))|(drop (1 1))|(drop 1 1|\
+    drop 1 1|drop 1 1)|(drop 1 1))|(drop 1 1)\r|(drop 1,1)|(drop11)|(drop1 1)|(Drop 1 1)|(drops 1 1)|(dro 1 1)|\
+    (drop 1 1 default)|(step 1)|(step 1 )|\
     (step 1 2 3)|(step 01 1)|(step 1 00000000001)|(step 99999999999 1)|(steps 1 1)|(send 1 0)|(send 1 0 1 1)|\
     (send 1 00 1)|(send 1 0 01)|(open 1 1)|(open 1 1 2 3)|(open 1  1 2)|(route 1 2)|(route 1 2 2 2)|(route 1 2 02)|\
     (route 1 00 2)|(route 1 -0 2)|(route 1 +0 2)|(route 1  2)|(route 1 () 2)|(route 1 default 2)|(route 1 0 2 default)|\

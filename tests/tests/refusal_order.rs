@@ -25,6 +25,7 @@ fn unreadable_before_range() {
         ("(step 9 00)", "(no 1)"),
         ("(send 9 2 11111111111)", "(no 1)"),
         ("(close 9 9)", "(no 1)"),
+        ("(drop 9 09)", "(no 1)"),
         ("(show 99)", "(no 1)"),
         ("(net 99)", "(no 1)"),
     ]);
@@ -153,6 +154,36 @@ fn step_send_and_close() {
         ("(step 1 3)", "(no 7)"),
         ("(step 1 5)", "(no 7)"),
         ("(close 1)", "(no 7)"),
+    ]);
+}
+
+/// Establishment 1 has no rows while it is busy; what is busy for one session, and the tunnel of another, are nothing to a third.
+#[test]
+fn drop_a_tunnel() {
+    on_network(&[
+        // 1 before 7, 2 before 7, 7 before 17
+        ("(drop 1 01)", "(no 1)"),
+        ("(drop 1 0)", "(no 2)"),
+        ("(drop 1 9)", "(no 2)"),
+        ("(drop 1 1)", "(no 7)"),
+        ("(open 1 1 2)", "(made 1)"),
+        ("(step 1 1)", "(made 2)"),
+        ("(drop 1 1)", "(no 17)"),
+        ("(step 1 2)", "(made 3 4)"),
+        // 1 before 16 and 17, 2 before 17, 16 before 17
+        ("(drop 1 1 )", "(no 1)"),
+        ("(drop 1 02)", "(no 1)"),
+        ("(drop 1 9)", "(no 2)"),
+        ("(drop 1 1)", "(no 16)"),
+        ("(drop 1 2)", "(no 17)"),
+        ("(drop 2 1)", "(no 7)"),
+        ("(open 2 1 2)", "(made 1)"),
+        ("(drop 2 1)", "(no 17)"),
+        ("(close 1)", "(closed)"),
+        // 7 before 16 and 17 of what was pending
+        ("(drop 1 1)", "(no 7)"),
+        ("(drop 1 2)", "(no 7)"),
+        ("(drop 1 0)", "(no 2)"),
     ]);
 }
 
