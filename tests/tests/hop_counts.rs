@@ -2,14 +2,16 @@
 //! however long the tunnels are, for their hops are the headers' to count. SEED and COUNT in the environment choose other random
 //! lists.
 //!
-//! Some of the rule no list of calls shows. Data with no hops left has been sent out before by every gateway of its circle, so a row
-//! matches at that out. Where Data is sent out again and goes bare, it is at a gateway and lost 1 by its next step. A Done goes
-//! through seven gateways at most.
+//! Data with no hops left has been sent out before by every gateway of its circle: only behind a drop (#109) is there no row at that
+//! out, and only behind one is Data bare with none left.
+//!
+//! Some of the rule no list of calls shows. Where Data is sent out again and goes bare, it is at a gateway and lost 1 by its next
+//! step, so that it is less one is not seen. A Done goes through seven gateways at most.
 
 use simulator_tests::calculus::{Item, Side};
 use simulator_tests::compare::{check, difference_from_list, made};
 use simulator_tests::hops::{kinds, met};
-use simulator_tests::listing::{begun, circle, data, establishment, moves, show, steps};
+use simulator_tests::listing::{begun, circle, data, establishment, exchanges, moves, show, steps, Listing};
 use simulator_tests::lists::{rounds, LateNetwork};
 use simulator_tests::program;
 use simulator_tests::random::{check_met_alone, for_each_index, setting};
@@ -127,6 +129,32 @@ fn out_again_without_hops_is_lost() {
     let rows = [&client[..], &["2 out 3 321 2", "3 in 2 321 2", "3 out 2 290 2"]].concat();
     let set_up = steps(1, &[(188, "(made 189)"), (189, "(made 190 191)")]);
     check(&[before, round, lost, show(&rows), set_up].concat());
+}
+
+/// Two gateways, with Data at the entrance as items 58 and 62 behind the grant 53 that closes their circle.
+fn two_in_a_circle_of_two() -> Listing {
+    let before = [begun(circle(2, 0), 4, 2), establishment(1, 3, 16), data(0, 54), moves(1, 57..=57), data(0, 59)];
+    [before.concat(), moves(1, 62..=62), steps(1, &[(53, "(made 64)")])].concat()
+}
+
+/// There, 192 is the 33rd out again, at the entrance. The tunnel by which it would go is dropped: it is lost for its hops, and only
+/// the other Data goes out bare.
+#[test]
+fn out_again_without_hops_or_row_is_lost() {
+    let round = [steps(1, &[(58, "(made 65)")]), moves(1, 65..=191)].concat();
+    let dropped = exchanges(&[("(drop 1 2)", "(closed)")]);
+    let lost = steps(1, &[(192, "(lost 2)"), (192, "(no 11)"), (63, "(made 193)"), (193, "(lost 1)")]);
+    check(&[two_in_a_circle_of_two(), round, dropped, lost].concat());
+}
+
+/// There, with the ack 64 stepped, 189 is the 32nd out again, at the other gateway, and the tunnel by which it would go is dropped.
+/// It takes the last hop, and goes bare: on the wire lost 1 is tested before lost 2.
+#[test]
+fn bare_without_hops_at_a_gateway() {
+    let round = [steps(1, &[(64, "(made 65)"), (58, "(made 66)")]), moves(1, 66..=188)].concat();
+    let dropped = exchanges(&[("(drop 1 3)", "(closed)")]);
+    let bare = steps(1, &[(189, "(made 190)"), (190, "(lost 1)"), (190, "(no 11)")]);
+    check(&[two_in_a_circle_of_two(), round, dropped, bare].concat());
 }
 
 /// All circles that eight establishments close, with as many hosts on the ways as there are nodes for.
