@@ -8,9 +8,11 @@ use crate::packets::{carriage, payload};
 use crate::simulator::Simulator;
 use std::collections::BTreeSet;
 
-/// What a step of up leads to, with what it takes. There is nothing else: Req and Rep are bare and a Done is not, all three have
-/// the rows that they need, and what is bare has come to its destination.
+/// What a step of up leads to, with what it takes. There is nothing else: Req and Rep are bare, and what is bare has come to its
+/// destination. A Done has the rows that it needs, and is bare or lost only where they were dropped (#109).
 pub const STEPS: &str = "Req bare, auth|Rep bare, auth|Done in a tunnel, out|Done in a tunnel, (opened)|\
+    Done in a tunnel, (lost 4)|Done in a tunnel, (lost 4) though the association stands|Done bare, (lost 5)|\
+    Done bare, (opened)|\
     Data in a tunnel, (lost 4)|Data in a tunnel, (lost 4) though the association stands|Data bare, (lost 5)|\
     Data in a tunnel, (lost 5)|Data in a tunnel, out|Data bare, (delivered)|Data in a tunnel, (delivered)";
 
@@ -46,7 +48,7 @@ fn arrival(simulator: &mut Simulator, call: &[u8]) -> Option<String> {
 }
 
 /// Whether the association stands by which the packet comes to the node, whoever its users are.
-fn stands(simulator: &mut Simulator, at: u64, packet: &Packet) -> bool {
+pub fn stands(simulator: &mut Simulator, at: u64, packet: &Packet) -> bool {
     let from = packet.header.map(|header| format!("(assoc {at} in {} ", header.from));
     from.is_some_and(|from| simulator.call(b"(show)").iter().any(|line| line.starts_with(&from)))
 }

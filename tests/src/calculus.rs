@@ -100,13 +100,16 @@ impl Item {
         matches!(self, Item::Dwait { .. } | Item::Ewait { .. })
     }
 
-    pub fn holds_data(&self) -> bool {
+    /// The packet of an item that holds one.
+    pub fn packet(&self) -> Option<&Packet> {
         match self {
-            Item::Wire { packet, .. } | Item::Out { packet, .. } | Item::Up { packet, .. } => {
-                matches!(packet.payload, Payload::Data(_))
-            }
-            _ => false,
+            Item::Wire { packet, .. } | Item::Out { packet, .. } | Item::Up { packet, .. } => Some(packet),
+            _ => None,
         }
+    }
+
+    pub fn holds_data(&self) -> bool {
+        self.packet().is_some_and(|packet| matches!(packet.payload, Payload::Data(_)))
     }
 
     /// Whether it names the establishment, so that this can't be dropped (#109).
@@ -157,6 +160,7 @@ impl Association {
     }
 }
 
+#[derive(Clone, Copy, Debug, PartialEq)]
 pub struct Row {
     pub association: Association,
     /// source and destination

@@ -8,8 +8,8 @@ use crate::packets::{carriage, payload};
 use crate::simulator::Simulator;
 use std::collections::BTreeSet;
 
-/// What a step leads to, but for Data out again. There is no other lost 2 on the wire: a Done goes the ways that Req went before, and
-/// nothing else of a set-up has a header.
+/// What a step leads to, but for Data out again. There is no other lost 2 on the wire: in a tunnel a Done goes the ways that Req went
+/// before, and nothing else of a set-up has a header. A bare Done is left to what is met of drops (#109).
 const STEPS: &str = "Disc bare, (lost 2)|Req bare, (lost 2)|Rep bare, (lost 2)|Data bare, (lost 2)|\
     Data in a tunnel, (lost 2)|header off with 31 left|header off with 30 to 26 left|header off with less left|\
     Done out again, (made)|Data delivered after it was out again";
@@ -52,7 +52,8 @@ fn kind(item: Item, answer: &str) -> Option<String> {
         Item::Out { packet, .. } if item.holds_data() => Some(data_out_again(packet.hops, end)),
         Item::Out { packet, .. } => Some(format!("{} out again, {end}", payload(&packet))),
         Item::Wire { packet, .. } if end == "(lost 2)" => {
-            Some(format!("{} {}, {end}", payload(&packet), carriage(&packet)))
+            let packet = format!("{} {}", payload(&packet), carriage(&packet));
+            (packet != "Done bare").then(|| format!("{packet}, {end}"))
         }
         Item::Up { packet, .. } if end != "(lost 4)" => arrival(&packet, end).map(String::from),
         _ => None,

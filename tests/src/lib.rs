@@ -6,6 +6,7 @@ pub mod calculus;
 pub mod compare;
 pub mod damage;
 pub mod defaults;
+pub mod drops;
 pub mod form;
 pub mod hops;
 pub mod join;

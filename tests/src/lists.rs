@@ -10,7 +10,9 @@ use crate::simulator::Simulator;
 use crate::topology::Topology;
 use std::collections::BTreeSet;
 
+mod drops;
 mod rounds;
+pub use drops::drops;
 pub use rounds::rounds;
 
 /// Calls, without newlines, and the second implementation's answers.
@@ -78,8 +80,8 @@ struct Generator {
     lowest: u64,
     any: u64,
     sessions: u64,
-    /// one in so many calls that go on with a session drops a tunnel instead
-    drops: u64,
+    /// one in so many calls that go on with a session drops a tunnel instead, and one in so many of those while its Done pends
+    drops: (u64, u64),
     late: LateNetwork,
 }
 
@@ -93,7 +95,7 @@ impl Generator {
     fn new(mut random: Random, topology: Topology, mix: (u64, u64), sessions: u64, late: LateNetwork) -> Self {
         let (lowest, any) = mix;
         // A dropped tunnel mostly loses Done and Data, so half of the lists hardly drop any on the way.
-        let drops = random.pick(&[25, 100, 1_000_000, 1_000_000]);
+        let drops = random.pick(&[(25, 4), (100, 4), (1_000_000, 1_000_000), (1_000_000, 1_000_000)]);
         let (simulator, list) = (Simulator::new(), List::default());
         Generator { random, simulator, topology, list, lowest, any, sessions, drops, late }
     }
@@ -148,7 +150,7 @@ impl Generator {
             let session = self.random.pick(&under_way);
             if self.random.one_in(20) {
                 self.step_oddly(session);
-            } else if self.random.one_in(self.drops) {
+            } else if self.drops_now(session) {
                 self.drop_tunnel(session);
             } else {
                 let item = self.random.pick(&self.simulator.active(session));
@@ -192,7 +194,7 @@ impl Generator {
     fn go_on(&mut self, session: u64, send: bool, item: Option<u64>) {
         if !self.simulator.in_use(session) {
             self.open(session);
-        } else if self.random.one_in(self.drops) {
+        } else if self.drops_now(session) {
             self.drop_tunnel(session);
         } else if let Some(item) = item.filter(|_| !send) {
             self.step(session, item);
@@ -278,6 +280,13 @@ impl Generator {
 
     fn close(&mut self, session: u64) {
         self.call(format!("(close {session})"));
+    }
+
+    /// Whether a call that goes on with the session is to drop a tunnel. Done pends for few of them.
+    fn drops_now(&mut self, session: u64) -> bool {
+        let (mostly, beside_done) = self.drops;
+        let one_in = if self.simulator.done_pends(session) { beside_done } else { mostly };
+        self.random.one_in(one_in)
     }
 
     /// Drops a tunnel that stands, or the newest establishment, which a set-up keeps busy, or any up to the next.

@@ -1,6 +1,6 @@
 //! The simulator: sessions over one network, the requests and their refusals, and the answers as text.
 
-use crate::calculus::{Association, Direction, Item, Outcome, Session};
+use crate::calculus::{Association, Direction, Item, Outcome, Payload, Row, Session};
 use crate::form::Form;
 use crate::network::{Network, Node, DEFAULT};
 use std::collections::{BTreeMap, BTreeSet};
@@ -82,10 +82,14 @@ impl Simulator {
         self.sessions.get(&session).map_or(0, |session| session.begun)
     }
 
+    /// The session's rows, oldest first.
+    pub fn rows(&self, session: u64) -> &[Row] {
+        self.sessions.get(&session).map_or(&[], |session| &session.rows)
+    }
+
     /// The session's establishments that have rows.
     pub fn tunnels(&self, session: u64) -> Vec<u64> {
-        let rows = self.sessions.get(&session).map(|session| &session.rows);
-        let establishments: BTreeSet<u64> = rows.into_iter().flatten().map(|row| row.establishment).collect();
+        let establishments: BTreeSet<u64> = self.rows(session).iter().map(|row| row.establishment).collect();
         establishments.into_iter().collect()
     }
 
@@ -98,6 +102,13 @@ impl Simulator {
     pub fn active(&self, session: u64) -> Vec<u64> {
         let items = self.sessions.get(&session).map(|session| &session.items);
         items.into_iter().flatten().filter(|(_, item)| item.is_active()).map(|(&number, _)| number).collect()
+    }
+
+    /// Whether the session's Done pends.
+    pub fn done_pends(&self, session: u64) -> bool {
+        let items = self.sessions.get(&session).map(|session| &session.items);
+        let mut packets = items.into_iter().flatten().filter_map(|(_, item)| item.packet());
+        packets.any(|packet| packet.payload == Payload::Done)
     }
 
     /// The numbers of the session's pending items, waits and others apart: (others, waits).

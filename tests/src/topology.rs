@@ -108,6 +108,28 @@ impl Topology {
         Self::of(nodes, &gateways, calls)
     }
 
+    /// Up to four gateways in a row, then a host, between two hosts. What goes bare from the last node to the first goes as they stand,
+    /// or straight there, or nowhere, or to the host before the last and back.
+    pub fn other_way_back(random: &mut Random) -> Self {
+        let size = 4 + random.index(4);
+        let nodes = some_nodes(random, size);
+        let gateways: Vec<bool> = (0..size).map(|place| (1..size - 2).contains(&place)).collect();
+        let mut calls = node_calls(random, &nodes, &gateways);
+        let (first, before, last) = (nodes[0], nodes[size - 2], nodes[size - 1]);
+        let as_they_stand = vec![(last, first, before), (before, first, nodes[size - 3])];
+        let circle = vec![(last, first, before), (before, first, last)];
+        let ways_back = [as_they_stand, vec![(last, first, first)], vec![], circle];
+        let mut routes = line_routes(&nodes);
+        routes.retain(|&(at, destination, _)| destination != first || at != last && at != before);
+        routes.extend(&ways_back[random.index(4)]);
+        if random.one_in(10) {
+            // the Rep for the first gateway is lost
+            routes.retain(|&(at, destination, _)| (at, destination) != (first, nodes[1]));
+        }
+        calls.extend(forms(&routes));
+        Self::of(nodes, &gateways, calls)
+    }
+
     fn of(nodes: Vec<u64>, gateways: &[bool], calls: Vec<String>) -> Self {
         let size = nodes.len();
         let hosts = (0..size).filter(|&place| !gateways[place]).map(|place| nodes[place]).collect();

@@ -4,7 +4,7 @@
 use simulator_tests::arrivals::{met, STEPS};
 use simulator_tests::compare::{check, difference_from_list};
 use simulator_tests::listing::{begun, chain, circle, data, establishment, moves, steps};
-use simulator_tests::lists::{list, LateNetwork};
+use simulator_tests::lists::{drops, list, LateNetwork};
 use simulator_tests::program;
 use simulator_tests::random::{check_met_alone, for_each_index, setting};
 
@@ -101,7 +101,10 @@ fn numbers_over_up_to_seven_gateways() {
 fn random_lists_meet_every_arrival() {
     let (seed, count) = (setting("SEED", 17), setting("COUNT", 1000));
     let met = for_each_index(count, |index| {
-        let list = list(seed, index, CALLS, LateNetwork::No);
+        let list = match index % 4 {
+            3 => drops(seed, index, LateNetwork::No),
+            _ => list(seed, index, CALLS, LateNetwork::No),
+        };
         let output = program::run(&list.input());
         assert_eq!(difference_from_list(&list, &output), None, "SEED={seed}, list {index}");
         met(&list.calls)
