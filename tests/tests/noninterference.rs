@@ -3,9 +3,10 @@
 
 use simulator_tests::compare::{is_network, made};
 use simulator_tests::defaults;
+use simulator_tests::drops;
 use simulator_tests::form::Form;
 use simulator_tests::hops;
-use simulator_tests::lists::{input, list, rounds, LateNetwork, List};
+use simulator_tests::lists::{self, input, list, rounds, LateNetwork, List};
 use simulator_tests::program;
 use simulator_tests::random::{check_met, for_each_index, setting};
 use std::collections::BTreeSet;
@@ -21,11 +22,21 @@ fn a_session_is_answered_as_if_alone() {
     check(seed, 300, |index| list(seed, index, CALLS, LateNetwork::No), (defaults::met, defaults::STEPS));
 }
 
-/// In a circle of gateways each session's Data has its own count of hops.
+/// In a circle of gateways each session's Data has its own count of hops, and its own rows of several establishments.
 #[test]
 fn a_session_in_a_circle_is_answered_as_if_alone() {
     let seed = setting("SEED", 20);
-    check(seed, 200, |index| rounds(seed, index, LateNetwork::No), (hops::met, &hops::kinds()));
+    let kinds = [&hops::kinds(), drops::IN_A_CIRCLE].join("|");
+    let met = |calls: &[Vec<u8>]| &hops::met(calls) | &drops::met(calls);
+    check(seed, 200, |index| rounds(seed, index, LateNetwork::No), (met, &kinds));
+}
+
+/// Sessions on the same ways drop tunnels of which others use the associations.
+#[test]
+fn a_session_that_drops_tunnels_is_answered_as_if_alone() {
+    let seed = setting("SEED", 22);
+    let kinds = [drops::ACCEPTED, drops::REFUSED, drops::PACKETS].join("|");
+    check(seed, 200, |index| lists::drops(seed, index, LateNetwork::No), (drops::met, &kinds));
 }
 
 /// Compares each session of so many lists, or of COUNT. The lists that sessions share have to meet all of the kinds.
