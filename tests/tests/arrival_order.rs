@@ -1,12 +1,12 @@
-//! Up reads the rows at the moment of its step (#107), on the program: of the calls next to that step only a grant at its node
-//! changes what is answered. All others may come before it or behind it; where both make items, these change their numbers. SEED
-//! and COUNT in the environment choose other lists.
+//! Up reads the rows at the moment of its step (#107), on the program: of the calls next to that step only a grant at its node and
+//! a drop of rows there (#109) change what is answered. All others may come before it or behind it; where both make items, these
+//! change their numbers. SEED and COUNT in the environment choose other lists.
 
 use simulator_tests::arrivals::stepped;
-use simulator_tests::calculus::Item;
+use simulator_tests::calculus::{Item, Row};
 use simulator_tests::compare::made;
 use simulator_tests::form::{Form, SESSIONS};
-use simulator_tests::lists::{input, list, LateNetwork, List};
+use simulator_tests::lists::{drops, input, list, LateNetwork, List};
 use simulator_tests::program;
 use simulator_tests::random::{check_met, for_each_index, setting, Random};
 use simulator_tests::simulator::Simulator;
@@ -14,15 +14,22 @@ use std::collections::BTreeSet;
 
 const CALLS: usize = 400;
 const GRANT: &str = "a grant at its node";
-const KINDS: &str =
-    "a call of another|another step of its session|a grant at its node|a grant at its node that changes it";
+const DROP: &str = "a drop at its node";
+const KINDS: &str = "a call of another|another step of its session|another drop of its session|a grant at its node|\
+    a grant at its node that changes it|a drop at its node|a drop at its node that changes it";
 
 /// What a call is to the step of an item of up that pends before it. None where they are one step, and where the session's call may
 /// depend on that step by more than rows: on the items that it makes or uses up.
 fn relation(simulator: &Simulator, session: u64, number: u64, call: &[u8]) -> Option<&'static str> {
     let Some(&Item::Up { at: node, .. }) = simulator.item(session, number) else { return None };
-    if Form::read(call).and_then(|form| form.session()) != Some(session) {
+    let form = Form::read(call);
+    if form.as_ref().and_then(Form::session) != Some(session) {
         return Some("a call of another");
+    }
+    if let Some(Form::Drop { establishment, .. }) = form {
+        let goes = |row: &Row| row.establishment == establishment && row.association.node == node;
+        let there = simulator.rows(session).iter().any(goes);
+        return Some(if there { DROP } else { "another drop of its session" });
     }
     match stepped(simulator, call)? {
         (_, other, item) if other == number || item.waits() => None,
@@ -72,7 +79,10 @@ fn up_to_numbers((step, call): &(String, String)) -> (String, String, Vec<u64>) 
 
 /// For one call of each kind in a list, tries both orders of it and the step of up. What was met.
 fn try_neighbours(seed: u64, index: u64) -> BTreeSet<String> {
-    let list = list(seed, index, CALLS, LateNetwork::No);
+    let list = match index % 4 {
+        3 => drops(seed, index, LateNetwork::No),
+        _ => list(seed, index, CALLS, LateNetwork::No),
+    };
     let mut found = neighbours(&list);
     Random::new(seed, index).shuffle(&mut found);
     let mut met = BTreeSet::new();
@@ -81,7 +91,7 @@ fn try_neighbours(seed: u64, index: u64) -> BTreeSet<String> {
         let orders = in_both_orders(&list, place, &step);
         let [step_first, call_first] = orders.each_ref().map(up_to_numbers);
         if step_first != call_first {
-            assert_eq!(kind, GRANT, "SEED={seed}, list {index}, call {place} and {step}: {orders:?}");
+            assert!([GRANT, DROP].contains(&kind), "SEED={seed}, list {index}, call {place} and {step}: {orders:?}");
             met.insert(format!("{kind} that changes it"));
         }
     }
@@ -89,7 +99,7 @@ fn try_neighbours(seed: u64, index: u64) -> BTreeSet<String> {
 }
 
 #[test]
-fn only_a_grant_at_its_node_changes_an_arrival() {
+fn only_a_grant_or_a_drop_at_its_node_changes_an_arrival() {
     let (seed, count) = (setting("SEED", 18), setting("COUNT", 300));
     let met = for_each_index(count, |index| try_neighbours(seed, index));
     check_met(met.into_iter().flatten(), KINDS, count >= 300);

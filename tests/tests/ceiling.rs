@@ -14,9 +14,9 @@ use simulator_tests::topology::{forms, longest_chain, longest_way, routes_along,
 use std::collections::{BTreeMap, BTreeSet};
 
 /// What the random set-ups have to meet: each end that a set-up has, with whose packet is lost or who denies; what comes between
-/// the steps of a set-up under way; and what is left at the end. A set-up meets no other loss: a Done has its rows, and Req and
-/// Rep are bare.
-const KINDS: &str = "Done (opened)|Initiator (denied)|Responder (denied)|Disc (lost 2)|Disc (lost 3)|Disc (lost 6)|\
+/// the steps of a set-up under way; and what is left at the end. Req and Rep are bare and meet no other loss; a Done is lost only
+/// where its rows were dropped (#109), and seldom but by 1 or 4.
+const KINDS: &str = "Done (opened)|Done (lost 1)|Done (lost 4)|Initiator (denied)|Responder (denied)|Disc (lost 2)|Disc (lost 3)|Disc (lost 6)|\
     Req (lost 2)|Req (lost 3)|Rep (lost 2)|Rep (lost 3)|wait between|used between|not issued between|Data between|\
     another session between|counted anew|nothing left|waits left|Data left|waits and Data left";
 

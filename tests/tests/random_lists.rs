@@ -17,7 +17,7 @@ const CALLS: usize = 400;
 const KINDS: &str = "(ok)|(made _)|(made _ default)|(made _ _)|(lost 1)|(lost 2)|(lost 3)|(lost 4)|(lost 5)|(lost 6)|\
     (denied)|(opened)|(delivered _)|(closed)|(assoc _ in _ _ _)|(assoc _ out _ _ _)|(end)|(node _ host)|(node _ gate)|\
     (route _ 0 _)|(route _ _ _)|nothing|(no 1)|(no 2)|(no 3)|(no 4)|(no 5)|(no 6)|(no 7)|(no 8)|(no 9)|(no 11)|(no 12)|\
-    (no 13)|another node|another node, lower peer|another node, lower as text|in then out|in then out, lower peer|\
+    (no 13)|(no 16)|(no 17)|another node|another node, lower peer|another node, lower as text|in then out|in then out, lower peer|\
     another peer|another peer, lower as text";
 
 #[test]
