@@ -120,9 +120,8 @@ fn done_that_comes_bare_to_the_client() {
 /// An ewait names its establishment and stays where no Rep comes to it: the drop is refused until a close, and establishments then
 /// count from 1 again.
 fn check_busy_for_ever(network: Listing, server: u64, last: u64, end: &str, rows: &[&str]) {
-    let shown = |rows: &[&str]| show(rows);
     let before = [begun(network, server, 0), establishment(1, 1, last - 1), steps(1, &[(last, end)])].concat();
-    let busy = [shown(rows), drop_of(1, "(no 16)"), drop_of(1, "(no 16)"), shown(rows), steps(1, &[(6, "(no 12)")])];
+    let busy = [show(rows), drop_of(1, "(no 16)"), drop_of(1, "(no 16)"), show(rows), steps(1, &[(6, "(no 12)")])];
     let close = exchanges(&[("(close 1)", "(closed)"), ("(drop 1 1)", "(no 7)")]);
     let first = last + 1;
     let reopen = exchanges(&[(&format!("(open 1 1 {server})"), &format!("(made {first})")), ("(drop 1 1)", "(no 17)")]);
@@ -187,8 +186,7 @@ fn close_and_reopen() {
     let again = exchanges(&[("(open 1 1 2)", "(made 20)"), ("(drop 1 1)", "(no 17)"), ("(step 1 20)", "(made 21)")]);
     let begin = steps(1, &[(21, "(made 22 23)"), (23, "(made 24 25)"), (24, "(made 26)")]);
     let to_ack = [begin, moves(1, 26..=36), drop_of(1, "(no 16)"), moves(1, 37..=40), steps(1, &[(41, "(opened)")])];
-    let rows = ["1 in 2 257 1", "1 out 2 288 1", "2 in 1 288 1", "2 out 1 257 1"];
-    let end = [show(&rows), drop_of(1, "(closed)"), show(&NO_ROWS)].concat();
+    let end = [show(&TUNNEL_1), drop_of(1, "(closed)"), show(&NO_ROWS)].concat();
     check(&[dropped, reopen, again, to_ack.concat(), end].concat());
 }
 

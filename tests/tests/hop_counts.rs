@@ -3,7 +3,7 @@
 //! lists.
 //!
 //! Data with no hops left has been sent out before by every gateway of its circle: only behind a drop (#109) is there no row at that
-//! out, and only behind one is Data bare with none left.
+//! out, and only behind one is Data bare at a gateway with none left.
 //!
 //! Some of the rule no list of calls shows. Where Data is sent out again and goes bare, it is at a gateway and lost 1 by its next
 //! step, so that it is less one is not seen. A Done goes through seven gateways at most.
