@@ -2,9 +2,10 @@
 
 use simulator_tests::compare::check;
 use simulator_tests::listing::{
-    begun, chain, circle, data, establishment, exchanges, moves, open, show, steps, Listing,
+    accepted, begun, chain, circle, data, establishment, exchanges, gate, host, moves, open, show, steps, Listing,
 };
 use simulator_tests::recorder::{Recorder, NONE};
+use simulator_tests::topology::{forms, line_routes, routes_along};
 
 const NO_ROWS: [&str; 0] = [];
 
@@ -159,6 +160,18 @@ fn older_row_of_another_peer() {
     let before = [begun(circle(2, 0), 4, 3), data(0, 56), data(0, 60)].concat();
     let newest = [steps(1, &[(59, "(lost 5)")]), dropped(1, 3), moves(1, 63..=68)].concat();
     check(&[before, newest, steps(1, &[(69, "(lost 1)"), (55, "(made 70)")])].concat());
+}
+
+/// Gateway 2 stands before a circle of 3 and 4: node 3 has a row of establishment 2 for what comes from 2, and a newer one of 4. The
+/// first tunnel goes, with Data from 2 at up at 3 as items 81 and 89: the newer row is still the newer.
+#[test]
+fn oldest_rows_go() {
+    let nodes = [host(1), gate(2), gate(3), gate(4), host(5)];
+    let round = routes_along(&[1, 2, 3, 4, 3], 5);
+    let network = accepted(nodes.into_iter().chain(forms(&[line_routes(&[1, 2, 3, 4]), round].concat())));
+    let sent = [data(0, 74), moves(1, 77..=80), data(0, 82), moves(1, 85..=88)].concat();
+    let newest = [dropped(1, 1), steps(1, &[(81, "(lost 5)")]), dropped(1, 4), steps(1, &[(89, "(made 90)")])].concat();
+    check(&[begun(network, 5, 4), sent, newest].concat());
 }
 
 /// Every session has all of its rows, and the first, a middle or the last tunnel of one goes: what is left of each delivers.
