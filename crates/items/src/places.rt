@@ -54,7 +54,7 @@ fn holds_data(s: Slot) -> bool
     is_data_item(item)
 }
 
-fn holds_name(e: u8, s: Slot) -> bool
+fn slot_names(s: Slot, e: u8) -> bool
     ensures { λ r. ⌜ r ≡ spec.namesEstablishment e (s .item) ⌝ }
 {
     let item = s.item;
@@ -132,7 +132,7 @@ pub fn is_busy(items: [Slot; 16], e: u8) -> bool
     let mut i: usize = 0;
     while i < 16 {
         let slot = items[i];
-        if holds_name(e, slot) {
+        if slot_names(slot, e) {
             return true;
         }
         i += 1;
@@ -163,7 +163,7 @@ pub fn use_up(items: [Slot; 16], w: Wait) -> [Slot; 16]
     items
 }
 
-// Item `i`, with the number `n`, goes to the first free place; with none free it is dropped.
+// Item `i`, with the number `n`, goes to the first free place, if there is one.
 pub fn put_item(items: [Slot; 16], n: ItemNumber, i: Item) -> [Slot; 16]
     ensures { λ r. ⌜ r ≡ state.putItem items (n .0) i ⌝ }
 {

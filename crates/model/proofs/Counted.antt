@@ -45,6 +45,12 @@ module _ (out : Bool) (a q : ℕ) where
       go (yes e) more = rw e (omega arith)
       go (no e) more = omega (arith, more (omega arith) (omega arith))
 
+  pub naming-same : (s s′ : State) (k n : ℕ) → ((v : ℕ) → n < v → v ≤ n + k → held (load s′ v) ≡ held (load s v))
+      → rowsNaming out a q s′ (upFrom n k) ≡ rowsNaming out a q s (upFrom n k)
+  unfolding upFrom
+  naming-same s s′ zero n h = refl
+  naming-same s s′ (suc k) n h = rw (h (n + 1) (omega arith) (omega arith), naming-same s s′ k (n + 1) (λ v i j. h v (omega arith) (omega arith)))
+
   -- every part but u's is the same
   module _ (s s′ : State) (u : ℕ) (others : (v : ℕ) → Numbered v → (v ≡ u → ⊥) → load s′ v ≡ load s v) where
     -- u's rows of s′ in place of those of s
@@ -52,10 +58,7 @@ module _ (out : Bool) (a q : ℕ) where
     Moved us = rowsNaming out a q s′ us + howMany out a q (held (load s u)) ≡ rowsNaming out a q s us + howMany out a q (held (load s′ u))
 
     pub naming-others : (k n : ℕ) → n + k ≤ 8 → u ≤ n → rowsNaming out a q s′ (upFrom n k) ≡ rowsNaming out a q s (upFrom n k)
-    unfolding upFrom
-    naming-others zero n h j = refl
-    naming-others (suc k) n h j =
-        rw (others (n + 1) (omega arith) (λ w. omega arith), naming-others k (n + 1) (omega arith) (omega arith))
+    naming-others k n h j = naming-same s s′ k n (λ v i m. ap held (others v (omega arith) (λ w. omega arith)))
 
     naming-moved : (k n : ℕ) → n + k ≤ 8 → n < u → u ≤ n + k → Moved (upFrom n k)
     unfolding upFrom

@@ -39,6 +39,7 @@ pub mod Bounded
 pub mod Settled
 pub mod Progress
 pub mod Termination
+pub mod Grants
 pub mod Drop
 pub mod ShowLines
 pub mod Alike

@@ -25,4 +25,4 @@ joins-hold = record { joined = refl; clash = refl; unsorted = refl; unread = ref
 
 pub listings-hold : Listings
 unfolding decimal digitsOf listText text starts scan number list fields hasAt kindAt nodeAt plainForm formOf read answerText associationLine network.nodeAt nextHop covers hasAllNeeded howMany admits usersOf withUsers wireRule outRule upRule estRule authRule grantRule ackRule rule load store useUp putItem itemsAfter sessionAfter applied checked nodeTurn routeTurn opening openMove stepped stepAt stepMove sending sendMove closing closeMove dropping dropMove changed performed shown entriesFrom requested answered replies after setUpSteps afterRounds events
-listings-hold = record { aToI = refl; lowestB = refl; lowestF = refl; further = refl; hopCounts = refl; drops = refl; grantsOfB = refl; views = refl; steps = refl; furtherSteps = refl; rounds = refl; joins = joins-hold }
+listings-hold = record { aToI = refl; lowestB = refl; lowestF = refl; further = refl; hopCounts = refl; drops = refl; dropEvents = refl; views = refl; steps = refl; furtherSteps = refl; rounds = refl; joins = joins-hold }

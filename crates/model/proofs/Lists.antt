@@ -49,10 +49,6 @@ module _ {A : Type 0} (P : A → Type 0) where
   all-take (suc n) [] h = tt
   all-take (suc n) (y ∷ l) h = (h .0, all-take n l (h .1))
 
-  all-each : ((x : A) → P x) → (l : List A) → All P l
-  all-each f [] = tt
-  all-each f (x ∷ l) = (f x, all-each f l)
-
   pub all-replicate : (n : ℕ) (x : A) → P x → All P (replicate n x)
   all-replicate zero x k = tt
   all-replicate (suc n) x k = (k, all-replicate n x k)
@@ -91,7 +87,8 @@ module _ {A : Type 0} (f : A → Bool) where
   tally-take (suc n) (x ∷ l) = omega (arith, tally-take n l)
 
 pub tally-each : {A : Type 0} (l : List A) → tally (λ x. true) l ≡ length l
-tally-each l = tally-all (λ x. true) l (all-each _ (λ x. refl) l)
+tally-each [] = refl
+tally-each (x ∷ l) = omega (arith, tally-each l)
 
 -- ---- those that a test holds of
 
@@ -102,7 +99,7 @@ all-those P f (x ∷ l) h =
     either (All P) (f x) (λ e. (h .0, k)) (λ e. k)
 
 module _ {A : Type 0} (f : A → Bool) where
-  pub those-length : (l : List A) → length (those f l) ≤ length l
+  those-length : (l : List A) → length (those f l) ≤ length l
   those-length [] = omega arith
   those-length (x ∷ l) =
       let k = those-length l in

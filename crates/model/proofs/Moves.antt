@@ -10,6 +10,7 @@ use lib.ListN.{length, take, length-take}
 use lib.Seq.{sets, length-sets}
 use Rattle.calculus.proofs.Tests.{never}
 use Rattle.calculus.specs.declared.effect.Added.{Added}
+use Rattle.calculus.specs.declared.effect.Added.the-variants.{NoRows, Two}
 use Rattle.calculus.specs.declared.effect.Effect.{Effect}
 use Rattle.calculus.specs.declared.network.Network.{Network}
 use Rattle.calculus.specs.declared.packet.Item.{Item}
@@ -56,6 +57,10 @@ applied-whole t h at f =
       length-after (t .items) (t .session .last .0) at f,
       length-sets (t .rows) (t .session .rows) (placed (t .session .rows) (f .added)),
     )
+
+pub none-added : (f : Added) → length (addedRows f) ≤ 0 → addedRows f ≡ []
+none-added NoRows h = refl
+none-added (Two r q) h = absurd (omega arith)
 
 -- a drop leaves the rows of the other establishments
 pub held-dropping : (e : ℕ) (t : Part) → held (dropping e t) ≡ those (isOther e) (held t)

@@ -1,11 +1,13 @@
 -- There is room: every request leaves a place for each item and row to come, and each wait that is to be used up. Assumes nothing.
-use mathlib.Core.Path.{_≡_, refl, _∙_}
-use mathlib.Core.Bool.{Bool, false}
+use mathlib.Core.Path.{_≡_, refl, ap, _∙_}
+use mathlib.Core.Bool.{Bool, true, false, cond}
 use mathlib.Core.List.{List}
 use Prim.Native.Nat.{ℕ, _+_, _-_, _*_, _≤_, _<_}
 use native.Mathlib.Omega.{arith}
 use lib.Dec.{eqb}
 use lib.ListN.{length, set, replicate, length-append}
+use Rattle.calculus.specs.Number.{within}
+use Rattle.calculus.proofs.Tests.{either}
 use Rattle.calculus.specs.declared.effect.Wait.{Wait}
 use Rattle.calculus.specs.declared.effect.Effect.{Effect}
 use Rattle.calculus.specs.declared.packet.Item.{Item}
@@ -18,14 +20,13 @@ use Rattle.model.specs.State.{blankSlot, blankRow, begunAfter, addedRows
 use Rattle.model.specs.Lists.{tally, upFrom}
 use Rattle.model.specs.Item.{isWait}
 use Rattle.model.specs.Row.{held, isOf}
-use Rattle.model.specs.Requests.{nextNumber, withItem}
+use Rattle.model.specs.Requests.{nextNumber, withItem, dropping}
 use Rattle.model.specs.SetUp.{isPending, itemAt}
-use Rattle.calculus.specs.Number.{within}
 use Rattle.model.proofs.Checks.{one}
 use Rattle.model.proofs.Parts.{Whole}
 use Rattle.model.proofs.Weights.{count, weigh, weighOut, weighWait, weigh-set, weigh-at, weigh-put, not-that-wait, length-put, ledger}
-use Rattle.model.proofs.Lists.{tally-append, tally-take, tally-each}
-use Rattle.model.proofs.Moves.{held-applied, applied-whole}
+use Rattle.model.proofs.Lists.{tally-append, tally-take, tally-each, tally-split}
+use Rattle.model.proofs.Moves.{held-applied, applied-whole, held-dropping, dropping-whole}
 use Rattle.model.proofs.SetUpWeights.{waits, uses, space, carries, active, due, rowsOf, begunOf, each, spare, pending, pends, begun-each, begun-once}
 use Rattle.model.proofs.Balance.{Law}
 
@@ -58,8 +59,15 @@ roomy-empty last = omega arith
 
 module _ (t : Part) (h : Roomy t) where
   -- of one establishment
-  pub rows-each : (e : ℕ) → tally (isOf e) (held t) ≤ 4 * one (within 1 (t .session .begun) e)
-  rows-each e = omega (arith, h .rows (λ f. eqb f e), begun-once e (t .session .begun))
+  pub rows-each : (e : ℕ) → tally (isOf e) (held t) ≤ cond (within 1 (t .session .begun) e) 4 0
+  rows-each e = go (within 1 (t .session .begun) e) (begun-once e (t .session .begun))
+    where
+      go : (b : Bool) → begunOf (λ f. eqb f e) (t .session .begun) ≤ one b → tally (isOf e) (held t) ≤ cond b 4 0
+      go true k = omega (arith, h .rows (λ f. eqb f e))
+      go false k = omega (arith, h .rows (λ f. eqb f e))
+
+  pub rows-four : (e : ℕ) → tally (isOf e) (held t) ≤ 4
+  rows-four e = either (λ (n : ℕ). tally (isOf e) (held t) ≤ n → tally (isOf e) (held t) ≤ 4) (within 1 (t .session .begun) e) (λ w k. k) (λ w k. omega arith) (rows-each e)
 
   -- of all
   pub few-rows : weigh (due each) (t .items) + t .session .rows ≤ 4 * t .session .begun
@@ -162,4 +170,21 @@ module _ (t : Part) (h : Roomy t) where
         begun = h .begun;
         counted = h .counted;
         rows = λ w. omega (arith, put (due w) refl, no-rows w, h .rows w);
+      }
+
+  -- ---- a drop
+
+  pub roomy-dropping : (e : ℕ) → Roomy (dropping e t)
+  unfolding dropping
+  roomy-dropping e =
+      let left = held-dropping e t in
+      record {
+        whole = dropping-whole e t (h .whole);
+        waits = h .waits;
+        places = h .places;
+        tags = h .tags;
+        actives = h .actives;
+        begun = omega (arith, h .begun);
+        counted = ap length left;
+        rows = λ w. rw left (omega (arith, h .rows w, tally-split (isOf e) (λ r. w (r .establishment)) (held t)));
       }

@@ -1,11 +1,11 @@
 -- What every request of a session keeps of its part: there is room, and items, rows and ends name nodes. Assumes nothing.
-use mathlib.Core.Path.{_≡_, refl, sym, ap, subst, _∙_}
+use mathlib.Core.Path.{_≡_, refl, sym, subst, _∙_}
 use mathlib.Core.Bool.{Bool, true, false, _&&_}
 use mathlib.Core.List.{List}
 use Prim.Native.Nat.{ℕ, _+_, _-_, _≤_}
 use native.Mathlib.Omega.{arith}
 use lib.Dec.{leb}
-use lib.ListN.{length, set}
+use lib.ListN.{set}
 use borrow.Author.Tests.{ltb-false, leb-false, eqb-false, not-false}
 use Rattle.calculus.proofs.Tests.{both, never}
 use Rattle.calculus.specs.declared.effect.Outcome.{Outcome}
@@ -23,7 +23,7 @@ use Rattle.calculus.specs.declared.state.Part.{Part}
 use Rattle.model.specs.Network.{given}
 use Rattle.model.specs.Packet.{bare}
 use Rattle.model.specs.Item.{isFree, isWait, isThatWait, vacant, isDataItem, howManyItems}
-use Rattle.model.specs.Row.{held, isOf, isOther}
+use Rattle.model.specs.Row.{held, isOther}
 use Rattle.model.specs.Rules.{rule}
 use Rattle.model.specs.State.{blankSlot, isNumbered, useUp, putItem, written, writtenCount, stageAfter, addedRows, placed, itemsAfter, sessionAfter, applied}
 use Rattle.model.specs.GivenBack.{Consistent}
@@ -31,14 +31,14 @@ use Rattle.model.specs.Requests.{Move, refuse, moved, isUnused, unused, 
 use Rattle.model.specs.SetUp.{isPending, itemAt}
 use Rattle.model.proofs.Checks.{checked-either}
 use Rattle.model.specs.Lists.{place, All}
-use Rattle.model.proofs.Lists.{all-set, all-get, all-append, all-take, all-replicate, all-map, all-those, none-tallied, tally-split}
+use Rattle.model.proofs.Lists.{all-set, all-get, all-append, all-take, all-replicate, all-map, all-those, none-tallied}
 use Rattle.model.proofs.Nodes.{Node, given-node}
 use Rattle.model.proofs.Weights.{counted, weigh-le, free-is}
 use Rattle.model.proofs.SetUpWeights.{uses, space, carries, active, due, spare, active-space, pending}
 use Rattle.model.proofs.Balance.{rule-law}
 use Rattle.model.proofs.Pending.{Distinct, distinct-step, distinct-item}
-use Rattle.model.proofs.Roomy.{Roomy, emptied, roomy-empty, roomy-step, roomy-item}
-use Rattle.model.proofs.Moves.{held-applied, held-dropping, dropping-whole}
+use Rattle.model.proofs.Roomy.{Roomy, emptied, roomy-empty, roomy-step, roomy-item, roomy-dropping}
+use Rattle.model.proofs.Moves.{held-applied, held-dropping}
 use Rattle.model.proofs.Named.{Named, RowNamed, Written, bare-named, rule-named}
 
 -- ---- every item
@@ -230,27 +230,11 @@ module _ (t : Part) (h : Sane t) where
 
   -- ---- drop
 
-  roomy-dropping : (e : ℕ) → Roomy (dropping e t)
-  unfolding dropping
-  roomy-dropping e =
-      let k = h .roomy in
-      let left = held-dropping e t in
-      record {
-        whole = dropping-whole e t (k .whole);
-        waits = k .waits;
-        places = k .places;
-        tags = k .tags;
-        actives = k .actives;
-        begun = omega (arith, k .begun);
-        counted = ap length left;
-        rows = λ w. rw left (omega (arith, k .rows w, tally-split (isOf e) (λ r. w (r .establishment)) (held t)));
-      }
-
   sane-dropping : (e : ℕ) → unused t ≡ false → Sane (dropping e t)
   unfolding dropping
   sane-dropping e u =
       record {
-        roomy = roomy-dropping e;
+        roomy = roomy-dropping t (h .roomy) e;
         rows = rw (held-dropping e t) (all-those RowNamed (isOther e) (held t) (h .rows));
         items = h .items;
         ends = h .ends;

@@ -1,12 +1,11 @@
 -- What a set-up can hold, in every state that calls reach. Assumes nothing.
 use mathlib.Core.Path.{_≡_, refl, ap, _∙_}
-use mathlib.Core.Bool.{Bool, true, false, cond}
+use mathlib.Core.Bool.{Bool, false}
 use mathlib.Core.List.{List, [], _∷_, _++_}
-use Prim.Native.Nat.{ℕ, _+_, _*_, _≤_, _<_}
+use Prim.Native.Nat.{ℕ, _+_, _≤_, _<_}
 use native.Mathlib.Omega.{arith}
 use lib.Seq.{take-all}
 use Rattle.calculus.proofs.Tests.{either}
-use Rattle.calculus.specs.Number.{within}
 use Rattle.calculus.specs.declared.effect.Outcome.{Outcome}
 use Rattle.calculus.specs.declared.effect.Outcome.the-variants.{Wrote, WroteByDefault, WroteTwo, Lost, Denied, Opened, Delivered}
 use Rattle.calculus.specs.declared.effect.Wait.{Wait}
@@ -21,11 +20,10 @@ use Rattle.calculus.specs.declared.state.State.{State}
 use Rattle.model.specs.Row.{held, areNodes, usersOf, stands}
 use Rattle.model.specs.Rules.{rule}
 use Rattle.model.specs.Item.{isFree, isWait, isDataItem, howManyItems}
-use Rattle.model.specs.SetUp.{itemAt, isSetUpItem, isGrant, isDiscOffWire, waitOf, HoldsPacket, itemsOf, waitItems, DropsNothing, Holds, SetUps}
+use Rattle.model.specs.SetUp.{itemAt, isSetUpItem, isGrant, isDiscOffWire, waitOf, HoldsPacket, itemsOf, waitItems, FindsPlaces, Holds, SetUps}
 use Rattle.model.specs.State.{fresh, load, putItem, applied}
 use Rattle.model.specs.Calls.{after}
 use Rattle.model.specs.Lists.{tally, All}
-use Rattle.model.proofs.Checks.{one}
 use Rattle.model.proofs.Lists.{all-map, tally-none}
 use Rattle.model.proofs.Weights.{count, counted, weighOut, weighWait, weigh-le, weigh-sum, weigh-at, weigh-put, free-or-pending}
 use Rattle.model.proofs.SetUpWeights.{uses, space, carries, due, each, wanted, pends, set-up-space, pending, grant-due}
@@ -60,7 +58,7 @@ few-users : (s : State) → Good s → (out : Bool) (a q : ℕ) → usersOf (s .
 unfolding usersOf
 few-users s g out a q = either (λ (n : ℕ). n ≤ 256) (areNodes a q) (λ e. rw e at (users-most s g out a q e)) (λ e. omega arith)
 
--- ---- nothing is dropped
+-- ---- all finds a place
 
 weigh-items : (g : Item → Bool) (o : Outcome) → weighOut (count g) o ≡ tally g (itemsOf o)
 weigh-items g (Wrote i) = omega arith
@@ -87,9 +85,9 @@ module _ (t : Part) (h : Roomy t) where
         weigh-put (count g) (rw z) (t .items) n i (omega (arith, pending (t .items), h .places, h .tags, h .whole .items)),
       )
 
-  pub step-drops-nothing : (n : Network) (standing : ℕ → ℕ → Bool) (at : ℕ) → at < 16 → isWait (itemAt (t .items) at) ≡ false
-      → DropsNothing t at (rule n standing t (itemAt (t .items) at))
-  step-drops-nothing n standing at b w =
+  pub step-finds-places : (n : Network) (standing : ℕ → ℕ → Bool) (at : ℕ) → at < 16 → isWait (itemAt (t .items) at) ≡ false
+      → FindsPlaces t at (rule n standing t (itemAt (t .items) at))
+  step-finds-places n standing at b w =
       let i = itemAt (t .items) at in
       let f = rule n standing t i in
       let law = rule-law n standing t i in
@@ -120,10 +118,6 @@ named-packet v (Ack a e) h = tt
 named-packet v (Dwait a) h = tt
 named-packet v (Ewait a e) h = tt
 
-four : (b : Bool) {n : ℕ} → n ≤ 4 * one b → n ≤ cond b 4 0
-four true h = omega arith
-four false h = omega arith
-
 holds : (s : State) → Sound s → (u : ℕ) → Numbered u → Holds s (load s u)
 unfolding uses carries
 holds s sound u hu =
@@ -137,7 +131,7 @@ holds s sound u hu =
       itemPlaces = k .whole .items;
       freePlace = omega (arith, counted isFree l, pending l, free-or-pending l, k .whole .items);
       written = put-comes t k;
-      stepped = step-drops-nothing t k (s .network) (stands (s .users) false);
+      stepped = step-finds-places t k (s .network) (stands (s .users) false);
       rowPlaces = k .whole .rows;
       rows = omega (
         arith,
@@ -147,7 +141,7 @@ holds s sound u hu =
         few-rows t k,
         k .begun,
       );
-      establishments = λ e. four (within 1 (t .session .begun) e) (rows-each t k e);
+      establishments = rows-each t k;
       rowNodes = h .rows;
       begun = k .begun;
       packets = all-map (At (Named (t .session .server))) (At HoldsPacket) (λ x. named-packet (t .session .server) (x .item)) l (h .items);

@@ -1,5 +1,5 @@
 -- The weights of a set-up: the waits that an item is to use up, the places that it holds, whether it is neither a wait nor Data, the rows
--- that it will add. Assumes nothing.
+-- that it will add, of any establishments; and how many of these are begun. Assumes nothing.
 use mathlib.Core.Path.{_≡_, refl, subst, _∙_}
 use mathlib.Core.Bool.{Bool, true, false, cond, not, _&&_, and-false}
 use mathlib.Core.List.{List}

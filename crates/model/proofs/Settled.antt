@@ -10,7 +10,6 @@ use Rattle.calculus.proofs.Tests.{Way, is, isnt, way, both, never, either}
 use Rattle.calculus.specs.Number.{within, isSession, isItem, isEstablishment, isTag}
 use Rattle.calculus.specs.declared.network.Network.{Network}
 use Rattle.calculus.specs.declared.packet.Slot.{Slot}
-use Rattle.calculus.specs.declared.request.Request as request
 use Rattle.calculus.specs.declared.request.Sender.{Sender}
 use Rattle.calculus.specs.declared.state.Part.{Part}
 use Rattle.calculus.specs.declared.state.State.{State}

@@ -4,10 +4,8 @@ use mathlib.Core.Bool.{Bool, true, false, cond}
 use mathlib.Core.List.{List}
 use Prim.Native.Nat.{ℕ, _+_, _-_, _≤_, _<_}
 use native.Mathlib.Omega.{arith}
-use lib.ListN.{length, set}
+use lib.ListN.{set}
 use Rattle.calculus.proofs.Tests.{never, either}
-use Rattle.calculus.specs.declared.effect.Added.{Added}
-use Rattle.calculus.specs.declared.effect.Added.the-variants.{NoRows, Two}
 use Rattle.calculus.specs.declared.effect.Outcome.{Outcome}
 use Rattle.calculus.specs.declared.effect.Outcome.the-variants.{Wrote, WroteByDefault, WroteTwo, Lost, Denied, Opened, Delivered}
 use Rattle.calculus.specs.declared.effect.Effect.{Effect}
@@ -32,7 +30,7 @@ use Rattle.model.proofs.Lists.{all-map, all-set, all-get, all-append, a
 use Rattle.model.proofs.Weights.{weighOut, counted, weigh-set}
 use Rattle.model.proofs.SetUpWeights.{active, grant-active}
 use Rattle.model.proofs.Balance.{Law, rule-law}
-use Rattle.model.proofs.Moves.{held-applied}
+use Rattle.model.proofs.Moves.{held-applied, none-added}
 use Rattle.model.proofs.Named.{Written}
 use Rattle.model.proofs.Sane.{At, Sane, all-after}
 use Rattle.model.proofs.Points.{Chained, chained-more}
@@ -94,10 +92,6 @@ written-inactive (Delivered tag) h = tt
 pub data-inactive : (s : Session) (w : Sender) (tag : ℕ) → Inactive (dataItem s w tag)
 data-inactive s Client tag = refl
 data-inactive s Server tag = refl
-
-none-added : (P : Row → Type 0) (f : Added) → length (addedRows f) ≤ 0 → All P (addedRows f)
-none-added P NoRows h = tt
-none-added P (Two r q) h = absurd (omega arith)
 
 -- ---- a step
 
@@ -170,7 +164,7 @@ module _ (net : Network) (t : Part) (h : Sane t) (n : ℕ) (k : Tracked net t n)
       (subst (λ (x : ℕ). All (At (Tracks net (t .session .client) (t .session .server) x n)) rest) same
       (all-set (At (Tracks net _ _ _ n)) (t .items) at blankSlot (k .items) (λ o. never o)))
       (written-map Inactive (Later n) (λ i q o. never (sym q ∙ o)) (effect .outcome) (written-inactive (effect .outcome) (omega (arith, law .actives, z))))
-      (none-added LaterRow (effect .added) (omega (arith, law .adds, grant-active item, z)))
+      (rw (none-added (effect .added) (omega (arith, law .adds, grant-active item, z))) tt)
 
   pub step-tracked : Tracked net stepped (cond (isSetUpItem item) (n + 1) n)
   step-tracked = either (Tracked net stepped) (isSetUpItem item) (λ e. active-step (rw (e, w))) (λ e. inactive-step (rw e))

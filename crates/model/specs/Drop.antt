@@ -23,12 +23,13 @@ use Rattle.model.specs.SetUp.{itemAt}
 
 -- ---- the calls that add rows or remove some
 
--- a grant of an establishment of a session; or a drop or a close, of any
 pub data Event : Type 0 where
-  granted : ℕ → ℕ → Event
+  -- a grant of session u, of its establishment e
+  granted : (u e : ℕ) → Event
+  -- a drop or a close, of any session
   removed : Event
 
--- a step of session u on the item i
+-- the events of an accepted step of session u on the item i
 abbrev pub stepEvents : ℕ → Item → List Event
 stepEvents u Free = []
 stepEvents u (Wire a p) = []
@@ -41,7 +42,7 @@ stepEvents u (Ack a e) = []
 stepEvents u (Dwait a) = []
 stepEvents u (Ewait a e) = []
 
--- a request on the state s
+-- the events of a request that is accepted on the state s
 abbrev pub requestEvents : State → request.Request → List Event
 requestEvents s (Node a k) = []
 requestEvents s (Route a b next) = []
@@ -53,15 +54,16 @@ requestEvents s Show = []
 requestEvents s Net = []
 requestEvents s (Drop u e) = removed ∷ []
 
+-- the same, of a line that was read
 abbrev pub lineEvents : State → Parsed → List Event
 lineEvents s (Asks q) = requestEvents s q
 lineEvents s (Refused r) = []
 
--- a call: none where it is refused
+-- the events of a call: none where it is refused
 abbrev pub callEvents : State → Call → List Event
 callEvents s c = cond (isAccepted (call s c .refusal)) (lineEvents s (asked (read (c .line)) .parsed)) []
 
--- a list of calls, in its order
+-- the events of a list of calls, in its order
 unfoldable pub events : State → List Call → List Event
 events s [] = []
 events s (c ∷ cs) = callEvents s c ++ events (call s c .state) cs

@@ -4,12 +4,12 @@ use lib.ListN.{take, drop}
 use Rattle.model.specs.HopListings.{roundInTunnels}
 use Rattle.model.specs.Listings.{_⇒_, Listing, session, pair, toAck, toOpen, secondTunnel, twoTunnels, thirdTunnel, throughGateway, circle, firstOfThree, threeTunnels}
 
--- "16 busy, if an item naming that establishment pends": tried before each call of l
+-- "16 busy, if an item naming that establishment pends", and 17 of another: both tried before each call of l
 abbrev pub busyBefore : Listing → Listing
 busyBefore [] = []
-busyBefore (e ∷ l) = "(drop 1 1)" ⇒ "(no 16)" ∷ e ∷ busyBefore l
+busyBefore (e ∷ l) = "(drop 1 1)" ⇒ "(no 16)" ∷ "(drop 1 2)" ⇒ "(no 17)" ∷ e ∷ busyBefore l
 
--- B, with a drop tried at every place until one is accepted, behind the ack. The Done then comes bare to node 1, and so does data
+-- B, with a drop tried at every place until one is accepted, behind the ack. The Done then comes bare to node 1, and data bare to node 2
 abbrev pub atEveryPlace : Listing
 atEveryPlace =
     pair ++ "(drop 1 1)" ⇒ "(no 7)" ∷ "(open 1 1 2)" ⇒ "(made 1)" ∷ "(drop 1 1)" ⇒ "(no 17)" ∷ "(step 1 1)" ⇒ "(made 2)"
@@ -31,7 +31,7 @@ halfATunnel =
     ∷ "(drop 1 1)" ⇒ "(closed)" ∷ "(show)" ⇒ "(end)" ∷ "(drop 1 1)" ⇒ "(no 17)"
     ∷ []
 
--- a Req that is lost leaves its ewait, which names the establishment "until a close"
+-- a Req that is lost leaves its ewait, which names the establishment until a close
 abbrev pub busyUntilAClose : Listing
 busyUntilAClose =
     take 3 pair ++ "(open 1 1 2)" ⇒ "(made 1)" ∷ take 4 (session 1 toAck)
@@ -51,7 +51,8 @@ oneOfTwoSessions =
     ∷ "(step 2 24)" ⇒ "(made 25)" ∷ "(step 2 25)" ⇒ "(made 26)" ∷ "(step 2 26)" ⇒ "(delivered 78)"
     ∷ []
 
--- the middle one of three tunnels goes, with the data that is in it; data from the server leaves its own tunnel at gateway 3 and is lost 1
+-- the middle one of three tunnels is dropped: data in it is lost 4 at its end, and data from the server comes out of the third at gateway 3,
+-- leaves bare and is lost 1
 abbrev pub middleOfThree : Listing
 middleOfThree =
     threeTunnels
@@ -72,7 +73,8 @@ nextIsTheSecond =
     ∷ "(drop 1 2)" ⇒ "(closed)" ∷ "(show)" ⇒ "(end)"
     ∷ []
 
--- a Done whose tunnel is dropped is lost 4; one whose next tunnel is dropped leaves bare, and is lost 1 at the gateway
+-- the Done is item 38, on the wire at the server: with its tunnel dropped it is lost 4; with the next one dropped it leaves gateway 2 bare,
+-- and is lost 1 there
 abbrev pub doneInADroppedTunnel : Listing
 doneInADroppedTunnel =
     take 43 throughGateway ++ "(drop 1 2)" ⇒ "(closed)" ∷ "(step 1 38)" ⇒ "(made 39)" ∷ "(step 1 39)" ⇒ "(made 40)" ∷ "(step 1 40)" ⇒ "(lost 4)" ∷ []
@@ -91,16 +93,16 @@ olderRowMatches =
     ∷ "(step 1 58)" ⇒ "(made 59)" ∷ "(drop 1 3)" ⇒ "(closed)" ∷ "(step 1 59)" ⇒ "(made 60)"
     ∷ []
 
--- data comes to node 2 from node 3 when the tunnel that it is in and the older row's are gone: a row of the second establishment still has
--- the peer 3, but none matches the data
+-- item 65 is data on the wire from gateway 3 to gateway 2, in the tunnel of establishment 3. With 3 and 1 dropped, a row of establishment 2
+-- at gateway 2 still has the peer 3, but none matches the data
 abbrev pub admittedAndNotMatched : Listing
 admittedAndNotMatched =
     take 70 roundInTunnels ++ "(drop 1 3)" ⇒ "(closed)" ∷ "(drop 1 1)" ⇒ "(closed)" ∷ "(step 1 65)" ⇒ "(made 66)" ∷ "(step 1 66)" ⇒ "(made 67)"
     ∷ "(step 1 67)" ⇒ "(lost 5)"
     ∷ []
 
--- with drops a gateway on the circle can be without a row: a packet with no hops left is lost 2 there as well, and one that leaves bare
--- with none left is lost 1
+-- with drops a gateway on the circle can be without a row: item 188, with no hops left, is lost 2 at gateway 2 as well, and item 184, with
+-- one left, leaves gateway 3 bare with none, and is lost 1
 abbrev pub noHopsAndNoRow : Listing
 noHopsAndNoRow = take 193 roundInTunnels ++ "(drop 1 2)" ⇒ "(closed)" ∷ "(step 1 188)" ⇒ "(lost 2)" ∷ []
 

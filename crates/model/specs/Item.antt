@@ -73,7 +73,7 @@ isDataItem (Dwait a) = false
 isDataItem (Ewait a e) = false
 
 -- "an item naming that establishment" (request #109): est, auth, grant, ack and ewait of e, and Req(e) and Rep(e) in any item. While a Req, a
--- Rep or the responder's auth or grant pends its ewait does too, so that no list of calls tells them from it
+-- Rep or the responder's auth or grant pends its ewait does too, so no list of calls shows that these name it
 abbrev pub namesEstablishment : ℕ → Item → Bool
 namesEstablishment e Free = false
 namesEstablishment e (Wire a p) = concerns (p .payload) e

@@ -28,8 +28,8 @@ use Rattle.model.specs.State.{fresh, load}
 use Rattle.model.specs.Calls.{Call, call, linesOf, after, replies, roomyCall}
 use Rattle.model.specs.Noninterference.{View, view}
 use Rattle.model.specs.Termination.{setUpSteps, afterRounds}
-use Rattle.model.specs.Drop.{Event, granted, events}
-use Rattle.model.specs.DropListings.{middleOfThree, nextIsTheSecond, dropListings}
+use Rattle.model.specs.Drop.{granted, removed, events}
+use Rattle.model.specs.DropListings.{atEveryPlace, middleOfThree, nextIsTheSecond, dropListings}
 use Rattle.model.specs.HopListings.{roundInTunnels, hopListings}
 use Rattle.model.specs.JoinListings.{JoinListings}
 use Rattle.model.specs.Listings.{Exchange, Listing, listings, listingA, listingB, listingC, listingF, throughGateway, dataInFirstOfThree, bareOutAgain, threeTunnels, waitsLeft, furtherExamples}
@@ -292,7 +292,7 @@ onlyWaitsAndData =
       };
     }
 
--- with three tunnels, after the drop of the middle one: the rows of the others stay in their order, and so does all else
+-- with three tunnels, after the drop of the middle one: the rows of the others stay in their order, and all else is as it was
 abbrev pub middleDropped : Moment
 middleDropped =
     record {
@@ -346,8 +346,8 @@ pub record Listings : Type 0 where
   pub hopCounts : map outputs hopListings ≡ map expected hopListings
   -- #109's
   pub drops : map outputs dropListings ≡ map expected dropListings
-  -- what Drops asks for is met: B's grants are the two of its establishment, and nothing else adds or removes rows
-  pub grantsOfB : events fresh (map callOf listingB) ≡ granted 1 1 ∷ granted 1 1 ∷ []
+  -- what Drops asks for can be met: both grants, and then the drop; the drops that are refused between are no events
+  pub dropEvents : events fresh (map callOf atEveryPlace) ≡ granted 1 1 ∷ granted 1 1 ∷ removed ∷ []
   -- what no answer shows: stages, ends, items with their contents, rows in their order of age
   pub views : map (λ m. seenBehind (m .calls)) moments ≡ map (λ m. m .sees) moments
   -- #103's count behind A to I: C's steps of Data are not in it, A's second open begins it anew, H's close and session 2 leave it

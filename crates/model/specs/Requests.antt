@@ -208,7 +208,7 @@ closeTo p t = checked refuse ((unused t, Idle) ∷ []) (moved Closed p (record {
 unfoldable pub closeMove : Part → Move
 closeMove t = closeTo (closing t) t
 
--- "removes the rows that establishment e added, at both nodes": the others stay in their order, and so do begun, stage and items
+-- "removes the rows that establishment e added, at both nodes": the others stay, in their order, and all else is as it was
 unfoldable pub dropping : ℕ → Part → Part
 dropping e t =
     let s = t .session in

@@ -1,4 +1,5 @@
--- What a row means: the packets that it matches, the association that it names, the users that it stands for. Assumes nothing.
+-- What a row means: the establishment that added it, the packets that it matches, the association that it names, the users that it
+-- stands for. Assumes nothing.
 use Prim.Native.Nat.{ℕ, _+_, _*_, _-_, _/_, _%_}
 use mathlib.Core.Bool.{Bool, true, false, cond, not, _&&_}
 use mathlib.Core.List.{List}
@@ -32,7 +33,7 @@ inRow a from to q e = record { node = a; out = false; source = from; destination
 abbrev pub isOf : ℕ → Row → Bool
 isOf e r = eqb (r .establishment) e
 
--- another did
+-- another establishment added it
 abbrev pub isOther : ℕ → Row → Bool
 isOther e r = not (isOf e r)
 

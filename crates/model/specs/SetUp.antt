@@ -137,8 +137,8 @@ waitItems (Establishment a e) = Ewait a e ∷ []
 abbrev pub itemAt : List Slot → ℕ → Item
 itemAt l at = getD l at blankSlot .item
 
--- the effect f of the item at place `at` drops nothing of the part t
-pub record DropsNothing (t : Part) (at : ℕ) (f : Effect) : Type 0 where
+-- all that the effect f of the item at place `at` brings finds a place in the part t
+pub record FindsPlaces (t : Part) (at : ℕ) (f : Effect) : Type 0 where
   -- "Rows are kept in order of age": all that f adds stand behind those that stood
   pub rows : held (applied t at f) ≡ held t ++ addedRows (f .added)
   -- of items of any kind g as many pend as before, without the stepped item and the wait that are used up, and with all that are
@@ -158,14 +158,14 @@ pub record Holds (s : State) (t : Part) : Type 0 where
   -- "16 places a session .. suffice": one is free; with the stepped item's own that makes two, enough for any rule
   pub itemPlaces : length (t .items) ≡ 16
   pub freePlace : 1 ≤ howManyItems isFree (t .items)
-  -- so no item is ever dropped: not the one that an open or a send writes, nor any of a step
+  -- so every item finds a place: the one that an open or a send writes, and each of a step
   pub written : (n : ℕ) (i : Item) (g : Item → Bool) → g Free ≡ false → howManyItems g (putItem (t .items) n i) ≡ howManyItems g (t .items) + tally g (i ∷ [])
   pub stepped : (at : ℕ) → at < 16 → isWait (itemAt (t .items) at) ≡ false
-      → DropsNothing t at (rule (s .network) (stands (s .users) false) t (itemAt (t .items) at))
+      → FindsPlaces t at (rule (s .network) (stands (s .users) false) t (itemAt (t .items) at))
   -- "and 32 rows": no more stand, and the two rows of a grant find a place
   pub rowPlaces : length (t .rows) ≡ 32
   pub rows : t .session .rows + 2 * howManyItems isGrant (t .items) ≤ 32
-  -- of these an establishment has 4 at most, two at each of its nodes, and none unless it is begun
+  -- of these an establishment has 4 at most, and none unless it is begun
   pub establishments : (e : ℕ) → tally (isOf e) (held t) ≤ cond (within 1 (t .session .begun) e) 4 0
   -- every row names an association of two nodes, so no row's peer is 0, which match answers for none
   pub rowNodes : All (λ r. areNodes (r .node) (r .peers .first) ≡ true) (held t)

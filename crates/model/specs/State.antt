@@ -86,7 +86,7 @@ isNumbered k s = not (vacant s) && eqb (s .number .0) k
 unfoldable pub useUp : List Slot → Wait → List Slot
 useUp l w = set l (place (λ s. isThatWait w (s .item)) l) blankSlot
 
--- item i, with the number n, goes to the first free place; with none free it is dropped, and SetUp states that this never is
+-- item i, with the number n, goes to the first free place; with none free it finds none, and SetUp states that this never is
 unfoldable pub putItem : List Slot → ℕ → Item → List Slot
 putItem l n i = set l (place vacant l) (record { number = record { 0 = n }; item = i })
 
@@ -139,7 +139,7 @@ abbrev pub addedRows : Added → List Row
 addedRows NoRows = []
 addedRows (Two r q) = r ∷ q ∷ []
 
--- the rows that find a place where n stand: with none free a row is dropped, and SetUp states that this never is
+-- the rows that find a place where n stand: with none free a row finds none, and SetUp states that this never is
 abbrev pub placed : ℕ → Added → List Row
 placed n f = take (32 - n) (addedRows f)
 

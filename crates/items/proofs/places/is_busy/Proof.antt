@@ -18,12 +18,12 @@ returns : tie.Need-returns Inv-loop μ-loop
 returns c =
     let c₄ = c .before .before .before .before in
     rw (take-all 16 (c₄ .before .args .t1) (search needs)) at
-    (unmet-here (c₄ .loop .inv) _ (search needs) (c .before .before .before .loop-test .taken) (join (c .before .holds-name .ensures) (c .if1 .taken)))
+    (unmet-here (c₄ .loop .inv) _ (search needs) (c .before .before .before .loop-test .taken) (join (c .before .slot-names .ensures) (c .if1 .taken)))
 
 loop-again : tie.Need-loop-again Inv-loop μ-loop
 loop-again c =
     unmet-more (c .before .before .before .before .loop .inv) _ (search needs) (c .before .before .before .loop-test .taken)
-    (join (c .before .holds-name .ensures) (c .if1 .left))
+    (join (c .before .slot-names .ensures) (c .if1 .left))
 
 returns-2 : tie.Need-returns-2 Inv-loop μ-loop
 returns-2 c =

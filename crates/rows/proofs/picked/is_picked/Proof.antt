@@ -1,5 +1,4 @@
 -- `picked::is_picked` meets its contract. Assumes nothing.
-use borrow.Author.Needs.{needs}
 use Rattle.rows.proofs.picked.is_picked.Statement.{statement}
 use Rattle.rows.proofs.picked.is_picked.Tie as tie
 

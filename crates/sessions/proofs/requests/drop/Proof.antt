@@ -1,10 +1,12 @@
 -- `requests::drop` meets its contract. Assumes nothing.
 use borrow.Author.Tests.{eq-eqb, ne-eqb}
 use borrow.Author.Needs.{needs}
-use mathlib.Core.Path.{refl, sym, ap, _∙_}
+use mathlib.Core.Path.{_≡_, refl, sym, ap, _∙_}
+use lib.ListN.{take}
 use Rattle.calculus.proofs.Tests.{join}
 use Rattle.model.specs.Requests.{dropMove, checked}
-use Rattle.model.specs.Row.{isOf, lowered}
+use Rattle.model.specs.Lists.{those}
+use Rattle.model.specs.Row.{held, isOf, lowered}
 use Rattle.model.proofs.Lists.{take-those}
 use Rattle.rows.specs.declared.picked.Rows.{Rows}
 use Rattle.sessions.proofs.requests.drop.Statement.{statement}
@@ -41,6 +43,8 @@ returns-4 c =
     let c₆ = c .before .before .before .before .before .before in
     let t = c₆ .before .before .before .before .before .before .before .before .args .t in
     let e = c₆ .before .before .before .before .before .before .before .before .args .e in
+    let gone : take (c₆ .picked .result .held) (c₆ .picked .result .places) ≡ those (isOf e) (held t) =
+    rw (c₆ .picked .ensures) (take-those (isOf e) (t .session .rows) (t .rows)) in
     simp (
       ne-eqb _ 0 (λ z. c .before .before .before .before .if3 .left (ap (λ (x : Rows). x .held) (c₆ .picked .ensures) ∙ z)),
       join (c₆ .before .before .is-busy .ensures) (c₆ .before .if2 .left),
@@ -48,7 +52,7 @@ returns-4 c =
     )
     (record {
       part = simp (c .dropping .ensures);
-      shared = c .before .lower .ensures ∙ ap (lowered _) (rw (c₆ .picked .ensures) (take-those (isOf e) (t .session .rows) (t .rows)));
+      shared = c .before .lower .ensures ∙ ap (lowered _) gone;
     })
 
 pub drop-spec : {M : Type 1} → statement M
