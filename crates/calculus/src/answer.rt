@@ -5,7 +5,7 @@ ghost use Rattle.calculus.specs.Answer.{loss_number, refusal_number};
 use crate::number::{ItemNumber, Spi};
 
 // Why a call or a join is refused, in the order of the numbers.
-#[derive(Drop)]
+#[derive(Clone, Copy)]
 pub enum Refusal {
     Short,
     Unreadable,
@@ -58,7 +58,7 @@ impl Refusal {
 }
 
 // Why a packet is lost.
-#[derive(Drop)]
+#[derive(Clone, Copy)]
 pub enum Loss {
     // bare Data or Done at a gateway
     Unprotected,
@@ -89,7 +89,7 @@ impl Loss {
 }
 
 // What a call answers, unless it asks for a report.
-#[derive(Drop)]
+#[derive(Clone, Copy)]
 pub enum Answer {
     Ok,
     Made(ItemNumber),
@@ -104,7 +104,7 @@ pub enum Answer {
 }
 
 // A standing association as show reports it: its direction is out, or in.
-#[derive(Drop)]
+#[derive(Clone, Copy)]
 pub struct ShownAssociation {
     pub node: u8,
     pub out: bool,

@@ -4,7 +4,7 @@ use crate::packet::Item;
 use crate::session::Row;
 
 // What comes of a step: the items that it writes, the first named with the lower number, or why it writes none.
-#[derive(Drop)]
+#[derive(Clone, Copy)]
 pub enum Outcome {
     Wrote(Item),
     // an item that a default route moved
@@ -17,7 +17,7 @@ pub enum Outcome {
 }
 
 // The wait that a rule uses up, if any: dwait(a) of a discovery or ewait(a, e) of an establishment.
-#[derive(Drop)]
+#[derive(Clone, Copy)]
 pub enum Wait {
     NoWait,
     Discovery(u8),
@@ -25,21 +25,21 @@ pub enum Wait {
 }
 
 // The rows that a rule adds, the older first.
-#[derive(Drop)]
+#[derive(Clone, Copy)]
 pub enum Added {
     NoRows,
     Two(Row, Row),
 }
 
 // The establishment that a rule begins, if any.
-#[derive(Drop)]
+#[derive(Clone, Copy)]
 pub enum Begins {
     Nothing,
     Next(u8),
 }
 
 // All that a step does to its session, but the numbers: those follow from how many items it writes.
-#[derive(Drop)]
+#[derive(Clone, Copy)]
 pub struct Effect {
     pub outcome: Outcome,
     pub wait: Wait,

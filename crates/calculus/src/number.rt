@@ -59,15 +59,15 @@ pub fn pred(n: u8) -> u8
 }
 
 // A set-up session, 1 to 8.
-#[derive(Drop)]
+#[derive(Clone, Copy)]
 pub struct SessionNumber(pub u8);
 
 // An item of one session, 1 to 1,000,000; 0 is no item's.
-#[derive(Drop)]
+#[derive(Clone, Copy)]
 pub struct ItemNumber(pub u32);
 
 // A security parameters index. 0 to 255 are reserved.
-#[derive(Drop)]
+#[derive(Clone, Copy)]
 pub struct Spi(pub u16);
 
 impl Spi {

@@ -5,7 +5,7 @@ use crate::number::{ItemNumber, Spi};
 pub const HOP_LIMIT: u8 = 32;
 
 // What a packet carries. `Req` and `Rep` name an establishment, `Disc` the last tunnel point, `Data` a tag.
-#[derive(Drop)]
+#[derive(Clone, Copy)]
 pub enum Payload {
     Req(u8),
     Rep(u8),
@@ -15,7 +15,7 @@ pub enum Payload {
 }
 
 // The header of a tunnel: its two ends, its SPI and its own hop count, the outer one. `to` 0 is no header.
-#[derive(Drop)]
+#[derive(Clone, Copy)]
 pub struct Header {
     pub from: u8,
     pub to: u8,
@@ -24,7 +24,7 @@ pub struct Header {
 }
 
 // A packet, with at most one header. `hops` is its own count, the inner one.
-#[derive(Drop)]
+#[derive(Clone, Copy)]
 pub struct Packet {
     pub source: u8,
     pub destination: u8,
@@ -34,7 +34,7 @@ pub struct Packet {
 }
 
 // The two sides of an establishment.
-#[derive(Drop)]
+#[derive(Clone, Copy)]
 pub enum Side {
     Responder,
     Initiator,
@@ -44,7 +44,7 @@ pub enum Side {
 // est(a, b, e), auth(a, q, e, side), grant(a, q, e, side), ack(a, e), dwait(a), ewait(a, e).
 // Document 01's in(a, packet, q) is part of up since request #107, and wire's h stands in its packet since #108.
 // `Free` is a place with no item.
-#[derive(Drop)]
+#[derive(Clone, Copy)]
 pub enum Item {
     Free,
     Wire(u8, Packet),
@@ -59,7 +59,7 @@ pub enum Item {
 }
 
 // A place for an item, with the item's number.
-#[derive(Drop)]
+#[derive(Clone, Copy)]
 pub struct Slot {
     pub number: ItemNumber,
     pub item: Item,

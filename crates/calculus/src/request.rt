@@ -6,7 +6,7 @@ use crate::network::Kind;
 use crate::number::{ItemNumber, SessionNumber};
 
 // Which end of a session sends.
-#[derive(Drop)]
+#[derive(Clone, Copy)]
 pub enum Sender {
     Client,
     Server,
@@ -26,7 +26,7 @@ impl Sender {
 }
 
 // A node's credentials stand beside its request: an enum holds no array.
-#[derive(Drop)]
+#[derive(Clone, Copy)]
 pub enum Request {
     Node(u8, Kind),
     Route {
@@ -49,7 +49,7 @@ pub enum Request {
 }
 
 // The report that a request asks for; where it asks for none, its answer is one line.
-#[derive(Drop)]
+#[derive(Clone, Copy)]
 pub enum Report {
     NoReport,
     AllAssociations,

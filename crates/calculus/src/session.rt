@@ -2,7 +2,7 @@
 use crate::number::ItemNumber;
 
 // How far a set-up has come.
-#[derive(Drop)]
+#[derive(Clone, Copy)]
 pub enum Stage {
     Unused,
     SettingUp,
@@ -12,7 +12,7 @@ pub enum Stage {
 
 // A set-up session between its client and its server (document 01's ends c and d), with how many establishments it has
 // begun, how many rows it has, and the last item number that it was issued, 0 before the first.
-#[derive(Drop)]
+#[derive(Clone, Copy)]
 pub struct Session {
     pub stage: Stage,
     pub client: u8,
@@ -23,7 +23,7 @@ pub struct Session {
 }
 
 // Document 01's peer of a row, or q of a header: a node, or 0 for none. With request #110 there are up to four.
-#[derive(Drop)]
+#[derive(Clone, Copy)]
 pub struct Peers {
     pub first: u8,
 }
@@ -31,7 +31,7 @@ pub struct Peers {
 // A row (a policy entry): packets from `source` to `destination`, its filter, go through the tunnel between `node` and
 // its peer, out of the node or, where `out` is false, into it. Its session is the one whose table holds it;
 // `establishment` is document 01's e.
-#[derive(Drop)]
+#[derive(Clone, Copy)]
 pub struct Row {
     pub node: u8,
     pub out: bool,

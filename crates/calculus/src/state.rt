@@ -5,7 +5,7 @@ use crate::packet::Slot;
 use crate::session::{Row, Session};
 
 // What one session holds: its items, and its rows in order of age, of which the first `session.rows` stand.
-#[derive(Drop)]
+#[derive(Clone, Copy)]
 pub struct Part {
     pub session: Session,
     pub items: [Slot; 16],
@@ -14,7 +14,7 @@ pub struct Part {
 
 // Document 01's desk. Session u owns the places 16 × (u − 1) to 16 × u − 1 of the items and 32 × (u − 1) to 32 × u − 1
 // of the rows; the users of an association stand in the order node, in before out, peer. `opened`: an open was accepted.
-#[derive(Drop)]
+#[derive(Clone, Copy)]
 pub struct State {
     pub opened: bool,
     pub network: Network,
@@ -25,14 +25,14 @@ pub struct State {
 }
 
 // What a call that asks for no report answers, and the state that it leaves.
-#[derive(Drop)]
+#[derive(Clone, Copy)]
 pub struct Turn {
     pub state: State,
     pub answer: Answer,
 }
 
 // What a request leaves of a session's part, and what it answers. `opens` tells that it is an accepted open.
-#[derive(Drop)]
+#[derive(Clone, Copy)]
 pub struct Moved {
     pub opens: bool,
     pub answer: Answer,

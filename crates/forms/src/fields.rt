@@ -15,7 +15,7 @@ use calculus::number::{
 use calculus::request::{Request, Sender};
 
 // Whether as many numbers as were asked for were read, and these are the first of `values`.
-#[derive(Drop)]
+#[derive(Clone, Copy)]
 pub struct Fields {
     pub ok: bool,
     pub values: [u64; 3],

@@ -1,4 +1,6 @@
 // The form language: a line read as a form, input split into lines.
+#![tactic(auto)]
+
 mod fields;
 pub mod line;
 mod list;

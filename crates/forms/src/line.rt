@@ -3,7 +3,7 @@ ghost use Rattle.std.specs.Prelude.{◌≡◌, ◌+◌, ◌≤◌, length, drop}
 ghost use Rattle.forms.specs.Line as spec;
 
 // The line that was asked for ends before `stop`, and the next starts at `next`; or the input is at its end.
-#[derive(Drop)]
+#[derive(Clone, Copy)]
 pub enum Line {
     Found { stop: usize, next: usize },
     End,

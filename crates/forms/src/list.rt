@@ -5,7 +5,7 @@ ghost use Rattle.forms.specs.Held as held;
 use crate::scan::{Number, byte_at, read_number};
 
 // What a list goes on with: a number behind a space, or its bracket; and the place behind it.
-#[derive(Drop)]
+#[derive(Clone, Copy)]
 pub enum Part {
     Number { value: u64, next: usize },
     Close { next: usize },
@@ -13,7 +13,7 @@ pub enum Part {
 }
 
 // A list read: how many numbers it has, and how many bytes it takes.
-#[derive(Drop)]
+#[derive(Clone, Copy)]
 pub enum ListRead {
     Numbers { count: usize, used: usize },
     Broken,

@@ -16,7 +16,7 @@ use calculus::number::{is_node, within};
 use calculus::request::Request;
 
 // Credentials as they are read: those that are there, the least that may follow, and whether all were in range and rising.
-#[derive(Drop)]
+#[derive(Clone, Copy)]
 pub struct Tally {
     pub set: [bool; 64],
     pub least: u64,
@@ -24,7 +24,7 @@ pub struct Tally {
 }
 
 // A list of credentials read: whether it is a list, its tally, and how many bytes it takes.
-#[derive(Drop)]
+#[derive(Clone, Copy)]
 pub struct Credentials {
     pub ok: bool,
     pub tally: Tally,

@@ -11,14 +11,14 @@ use calculus::answer::Refusal;
 use calculus::request::Request;
 
 // What a line asks, or its refusal 1 or 2.
-#[derive(Drop)]
+#[derive(Clone, Copy)]
 pub enum Parsed {
     Asks(Request),
     Refused(Refusal),
 }
 
 // A line read. The credentials are a node's, and none otherwise.
-#[derive(Drop)]
+#[derive(Clone, Copy)]
 pub struct Reading {
     pub parsed: Parsed,
     pub has: [bool; 64],

@@ -3,7 +3,7 @@ ghost use Rattle.std.specs.Prelude.{◌≡◌, ◌∷◌, [], ◌<◌, length, d
 ghost use Rattle.forms.specs.Read as spec;
 
 // A number read, and how many bytes it takes.
-#[derive(Drop)]
+#[derive(Clone, Copy)]
 pub enum Number {
     Found { value: u64, used: usize },
     Missing,

@@ -64,7 +64,7 @@ fn count_one(n: usize, s: Slot) -> usize
 }
 
 // What is looked for among a session's places: a free one, that of an item's number, that of a wait.
-#[derive(Drop)]
+#[derive(Clone, Copy)]
 pub enum Wanted {
     Vacancy,
     Number(ItemNumber),

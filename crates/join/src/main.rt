@@ -1,12 +1,13 @@
 // Joins the networks of two files, whose names are its arguments, and writes the network of both, or why not. It reads and writes;
 // what it makes of the files is `joins`'.
+#![tactic(auto)]
 ghost use Rattle.io.specs.Counts.{IsPrefixLen};
 
 use joins::join;
 use libc::STDOUT_FILENO;
 
 // Whether a file could be read, and how many of its bytes stand at the front of a lent buffer.
-#[derive(Drop)]
+#[derive(Clone, Copy)]
 pub struct FileRead {
     pub is_read: bool,
     pub size: usize,

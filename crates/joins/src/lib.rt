@@ -1,4 +1,5 @@
 // Two networks made one (document 02, #106): the join of two files.
+#![tactic(auto)]
 mod compare;
 mod merge;
 
@@ -18,14 +19,14 @@ use simulator::calls::calls;
 use tables::fresh::fresh;
 
 // How many bytes of the lent output a join wrote, and whether it was refused.
-#[derive(Drop)]
+#[derive(Clone, Copy)]
 pub struct JoinReply {
     pub written: usize,
     pub status: Status,
 }
 
 // Whether a file is as `(net)` writes it, and the network that it then is the text of.
-#[derive(Drop)]
+#[derive(Clone, Copy)]
 pub struct Contents {
     pub sorted: bool,
     pub network: Network,

@@ -1,13 +1,14 @@
 // A reader of lines: it holds the input and how far that is read. The borrow checker covers no function over such a struct,
 // so each is proved by hand, and thin: it takes the reader apart, and a covered function does the work on the input and the
 // place. Whoever has an input and a place calls `line_at`, and needs no such proof.
+#![tactic(auto)]
 ghost use Rattle.std.specs.Prelude.{◌≡◌};
 ghost use Rattle.forms.specs.Line as spec;
 ghost use Rattle.lines.specs.Behind.{behind};
 
 use forms::line::{Line, next_line};
 
-#[derive(Drop)]
+#[derive(Clone, Copy)]
 pub struct Reader<'a> {
     pub input: &'a [u8],
     pub at: usize,

@@ -1,5 +1,6 @@
 // Input that comes in pieces, answered as it comes. The bytes that came stand in a buffer that the caller lends; a round answers
 // lines of them, and keeps at the buffer's front what stays of a line whose newline has not come.
+#![tactic(auto)]
 ghost use Rattle.std.specs.Prelude.{◌≤◌, min, ◌≡◌, ◌&&◌, eqb, length};
 ghost use Rattle.model.specs.Stream.{has_line};
 ghost use Rattle.pieces.specs.Keep.{Keeps};
@@ -17,7 +18,7 @@ const TOO_LONG: usize = 401;
 
 // How far the input is answered: the state; the bytes of the buffer from `from` to `to` came and are not read; whether more of
 // the input is wanted, or it is over; how many bytes of the output the last round wrote.
-#[derive(Drop)]
+#[derive(Clone, Copy)]
 pub struct Progress {
     pub state: State,
     pub from: usize,

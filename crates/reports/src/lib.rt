@@ -1,4 +1,5 @@
 // The lines that answer a call, written into the lent output: a report's, or that of the one answer.
+#![tactic(auto)]
 mod network;
 mod show;
 

@@ -8,7 +8,7 @@ use calculus::session::{Peers, Row};
 use items::packet::concerns;
 
 // What a match is asked for: the packet's row at `node`, out of it or into it.
-#[derive(Drop)]
+#[derive(Clone, Copy)]
 pub struct Query {
     pub out: bool,
     pub node: u8,

@@ -5,7 +5,7 @@ ghost use Rattle.rows.specs.Picked as spec;
 use calculus::session::Row;
 
 // Rows, the oldest first: the first `held` of the places.
-#[derive(Drop)]
+#[derive(Clone, Copy)]
 pub struct Rows {
     pub places: [Row; 32],
     pub held: u8,

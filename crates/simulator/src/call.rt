@@ -12,14 +12,14 @@ use tables::part::{load, store};
 use turns::{is_opened, session_of, turn};
 
 // Whether the call was answered or refused.
-#[derive(Drop)]
+#[derive(Clone, Copy)]
 pub enum Status {
     Answered,
     Refused(Refusal),
 }
 
 // The state that a call leaves, how many bytes of the lent output it wrote, and whether it was refused.
-#[derive(Drop)]
+#[derive(Clone, Copy)]
 pub struct Reply {
     pub state: State,
     pub written: usize,

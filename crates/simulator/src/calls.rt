@@ -14,7 +14,7 @@ use tables::part::{pack, unpack};
 use turns::{is_opened, session_of, turn};
 
 // The state that the calls leave, how many bytes of the text they are, and how many bytes of the lent output they wrote.
-#[derive(Drop)]
+#[derive(Clone, Copy)]
 pub struct Answered {
     pub state: State,
     pub read: usize,
