@@ -1,6 +1,6 @@
 -- What is discovered on a wire, and where. Assumes nothing.
 use mathlib.Core.Path.{◌≡◌, refl}
-use mathlib.Core.Bool.{Bool, true, false, or_true}
+use mathlib.Core.Bool.{Bool, true, false, or-true}
 use Prim.Native.Nat.{ℕ, ◌<◌}
 use borrow.Author.Tests.{eq-eqb, ne_eqb, leb-false}
 use Rattle.calculus.proofs.Tests.{never}
@@ -18,7 +18,7 @@ discovers_disc gateway server a (Data tag) h = never h
 
 -- the server discovers every Disc but its own
 pub server_discovers : (gateway : Bool) (server a p : ℕ) → (a ≡ p → ⊥) → a ≡ server → discovers gateway server a (Disc p) ≡ true
-server_discovers gateway server a p n e = rw (ne_eqb a p n, eq-eqb a server e) (or_true gateway)
+server_discovers gateway server a p n e = rw (ne_eqb a p n, eq-eqb a server e) (or-true gateway)
 
 pub not_exhausted : (s : Session) → is_exhausted s ≡ false → s.begun < 8
 not_exhausted s e = leb-false _ s.begun e

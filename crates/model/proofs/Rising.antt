@@ -1,6 +1,6 @@
 -- Lists in strictly rising order of their keys. Assumes nothing.
 use mathlib.Core.Path.{◌≡◌, refl}
-use mathlib.Core.Bool.{Bool, true, or_true}
+use mathlib.Core.Bool.{Bool, true, or-true}
 use mathlib.Core.List.{List, [], ◌∷◌, ◌++◌}
 use Prim.Native.Nat.{ℕ, ◌+◌, ◌≤◌, ◌<◌}
 use native.Mathlib.Omega.{arith}
@@ -23,7 +23,7 @@ before_cons a b l m h next = go (way (ltb a b))
     go (is e) = rw e
     go (isnt e) =
         let f : a ≡ b = omega (arith, ltb-false a b e) in
-        rw (eq-eqb a b f, next f, or_true (ltb a b))
+        rw (eq-eqb a b f, next f, or-true (ltb a b))
 
 -- the first numbers rise, or they are the same and the numbers behind them rise
 data Rises (a b : ℕ) (l m : List ℕ) : Type 0 where
