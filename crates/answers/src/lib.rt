@@ -1,5 +1,6 @@
 // Answers and the lines of reports written as bytes, straight into the caller's slice.
 #![tactic(auto)]
+
 mod put;
 pub mod report;
 pub mod room;

@@ -2,6 +2,7 @@
 // long enough. Both outputs are all dots before; of each call it writes what was returned, how many bytes stand before the
 // first dot and how many dots there are, then those bytes.
 #![tactic(auto)]
+
 ghost use Rattle.io.specs.Counts.{IsPrefixLen};
 
 use calculus::state::State;

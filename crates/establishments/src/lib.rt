@@ -1,5 +1,6 @@
 // The rules of an establishment: est, auth, grant, ack.
 #![tactic(auto)]
+
 ghost use Rattle.std.specs.Prelude.{◌≡◌};
 ghost use Rattle.model.specs.Rules as spec;
 

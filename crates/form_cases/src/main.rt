@@ -1,5 +1,6 @@
 // Writes what each line of the input asks, then answers of each kind, with every loss and every refusal, then lines of reports.
 #![tactic(auto)]
+
 use answers::report::{write_association, write_end, write_node, write_route};
 use answers::write::write;
 use calculus::answer::{Answer, Loss, Refusal, ShownAssociation};

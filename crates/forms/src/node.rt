@@ -157,6 +157,7 @@ fn has_at(s: &[u8], node: u64, kind: Kind) -> Reading
 }
 
 // From behind the node's number, to the end.
+#[tactic(auto, using(crate::proofs::Words::starts_inside, crate::proofs::Parts::rest), unfolding(crate::specs::Read::kind_at))]
 fn kind_at(s: &[u8], node: u64) -> Reading
     ensures { result ≡ asked (spec.kind_at 10 200 node s.now) }
 {
@@ -170,6 +171,7 @@ fn kind_at(s: &[u8], node: u64) -> Reading
 }
 
 // From behind `(node `, to the end.
+#[tactic(auto, using(crate::proofs::Numbers::number_inside, crate::proofs::Parts::rest), unfolding(crate::specs::Read::node_at))]
 pub fn node_at(s: &[u8]) -> Reading
     ensures { result ≡ asked (spec.node_at 10 200 s.now) }
 {

@@ -26,6 +26,7 @@ pub struct Reading {
 }
 
 // A form other than a node's.
+#[tactic(auto, using(crate::proofs::Words::starts_inside, crate::proofs::Parts::rest), unfolding(crate::specs::Read::plain_form))]
 fn read_plain(s: &[u8]) -> Reading
     ensures { result ≡ asked (spec.plain_form 10 s.now) }
 {
@@ -57,6 +58,7 @@ fn read_plain(s: &[u8]) -> Reading
 }
 
 // What a line of any length asks.
+#[tactic(auto, using(crate::proofs::Words::starts_inside, crate::proofs::Parts::rest), unfolding(crate::specs::Read::form_of))]
 fn read_form(s: &[u8]) -> Reading
     ensures { result ≡ asked (spec.form_of 10 200 s.now) }
 {

@@ -1,6 +1,7 @@
 // Joins the networks of two files, whose names are its arguments, and writes the network of both, or why not. It reads and writes;
 // what it makes of the files is `joins`'.
 #![tactic(auto)]
+
 ghost use Rattle.io.specs.Counts.{IsPrefixLen};
 
 use joins::join;

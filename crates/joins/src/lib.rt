@@ -1,5 +1,6 @@
 // Two networks made one (document 02, #106): the join of two files.
 #![tactic(auto)]
+
 mod compare;
 mod merge;
 

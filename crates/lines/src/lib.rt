@@ -2,6 +2,7 @@
 // so each is proved by hand, and thin: it takes the reader apart, and a covered function does the work on the input and the
 // place. Whoever has an input and a place calls `line_at`, and needs no such proof.
 #![tactic(auto)]
+
 ghost use Rattle.std.specs.Prelude.{◌≡◌};
 ghost use Rattle.forms.specs.Line as spec;
 ghost use Rattle.lines.specs.Behind.{behind};

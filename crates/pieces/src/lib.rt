@@ -1,6 +1,7 @@
 // Input that comes in pieces, answered as it comes. The bytes that came stand in a buffer that the caller lends; a round answers
 // lines of them, and keeps at the buffer's front what stays of a line whose newline has not come.
 #![tactic(auto)]
+
 ghost use Rattle.std.specs.Prelude.{◌≤◌, min, ◌≡◌, ◌&&◌, eqb, length};
 ghost use Rattle.model.specs.Stream.{has_line};
 ghost use Rattle.pieces.specs.Keep.{Keeps};

@@ -1,5 +1,6 @@
 // The lines that answer a call, written into the lent output: a report's, or that of the one answer.
 #![tactic(auto)]
+
 mod network;
 mod show;
 

@@ -1,5 +1,6 @@
 // A session's rows: match, the association that a row names, and the establishment that added it.
 #![tactic(auto)]
+
 mod fit;
 mod lent;
 pub mod picked;

@@ -1,6 +1,7 @@
 // The simulator as a program: a call on each line of standard input, the answers' lines on standard output. It reads and writes;
 // what it makes of its input is `pieces`'.
 #![tactic(auto)]
+
 ghost use Rattle.std.specs.Prelude.{◌≤◌, length};
 
 use libc::{STDIN_FILENO, STDOUT_FILENO};

@@ -1,5 +1,6 @@
 // What a line does, told by the part of the session that it names and by the tables that all sessions share.
 #![tactic(auto)]
+
 ghost use Rattle.std.specs.Prelude.{◌≡◌, ◌||◌};
 ghost use Rattle.model.specs.Requests as spec;
 ghost use Rattle.model.specs.Turn as turns;
