@@ -12,3 +12,6 @@ nodes_bounds a q e =
     let of-a = within_bounds 1 32 a h.0 in
     let of-q = within_bounds 1 32 q h.1 in
     (of-a.0, of-a.1, of-q.0, of-q.1)
+
+pub node_bounds : (a : ℕ) → is_node a ≡ true → (1 ≤ a) × (a ≤ 32)
+node_bounds a e = within_bounds 1 32 a e

@@ -17,6 +17,7 @@ pub fn no_node() -> Node
     }
 }
 
+#[tactic(auto, using(crate::proofs::Nodes::node_bounds, crate::proofs::Within::get_or_within), unfolding(model::specs::Network::node_at))]
 fn node_at(n: Network, a: u8) -> Node
     ensures { result ≡ spec.node_at n a }
 {
@@ -89,6 +90,7 @@ fn hop(n: Network, a: u8, b: u8) -> NextHop
 }
 
 // The next hop from `a` for `b`; none where `a` or `b` is no node.
+#[tactic(auto, unfolding(model::specs::Network::next_hop))]
 pub fn next_hop(n: Network, a: u8, b: u8) -> NextHop
     ensures { result ≡ spec.next_hop n a b }
 {
@@ -126,6 +128,7 @@ fn covers(has: [bool; 64], needs: [bool; 64]) -> bool
 }
 
 // Whether `q` has all that `a` needs.
+#[tactic(auto, unfolding(model::specs::Network::has_all_needed))]
 pub fn has_all_needed(n: Network, a: u8, q: u8) -> bool
     ensures { result ≡ spec.has_all_needed n a q }
 {

@@ -27,6 +27,7 @@ fn place(out: bool, a: u8, q: u8) -> usize
 }
 
 // Whether In(a, q) or Out(a, q) stands; none does where a or q is no node.
+#[tactic(auto, unfolding(model::specs::Row::users_of))]
 pub fn stands(users: &[u16; 2048], out: bool, a: u8, q: u8) -> bool
     ensures { result ≡ spec.stands users.now out a q }
 {
@@ -54,6 +55,7 @@ fn moved(more: bool, n: u16) -> u16
 }
 
 // The users once a row has come, or has gone.
+#[tactic(auto, unfolding(model::specs::Row::with_users))]
 fn with_row(users: &mut [u16; 2048], more: bool, r: Row)
     ensures { users.new ≡ spec.with_users (cond more spec.one_more spec.one_less) users.old r }
 {
