@@ -8,6 +8,7 @@ use calculus::network::Network;
 use lookups::network::given;
 
 // node a: refusals 5, 3.
+#[tactic(auto, unfolding(model::specs::Requests::checked))]
 pub fn node_answer(opened: bool, n: Network, a: u8) -> Answer
     ensures { result ≡ spec.checked No (spec.node_checks opened n a) Ok }
 {

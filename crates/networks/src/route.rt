@@ -46,6 +46,7 @@ fn has_route(n: Network, a: u8, b: u8) -> bool
 }
 
 // route a b hop: refusals 5, 4, 8, 3.
+#[tactic(auto, unfolding(model::specs::Requests::checked))]
 pub fn route_answer(opened: bool, n: Network, a: u8, b: u8, hop: u8) -> Answer
     ensures { result ≡ spec.checked No (spec.route_checks opened n a b hop) Ok }
 {
