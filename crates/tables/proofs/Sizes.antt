@@ -3,7 +3,7 @@ use mathlib.Core.Path.{◌≡◌}
 use mathlib.Core.List.{List, [], ◌∷◌}
 use Prim.Native.Nat.{ℕ, zero, suc, ◌<◌}
 use native.Mathlib.Omega.{arith}
-use lib.ListN.{length, get_or, length-map}
+use lib.ListN.{length, get_or}
 use mir.Val.{Val}
 use denote.Array.{each, Array}
 use denote.Laws.{Is}
@@ -18,20 +18,20 @@ use Rattle.model.proofs.Parts.{Sized, Whole}
 pub state_sized : (s : State) (vs : List Val) → Is (row state.the_type) s vs → Sized s
 state_sized s vs h =
     let x = h.1.1.1.1 in
-    let e : length s.sessions ≡ 8 = simp length-map at x.0.1.0.1 in
-    let f : length s.items ≡ 128 = simp length-map at x.1.0.1.0.1 in
-    let g : length s.rows ≡ 256 = simp length-map at x.1.1.0.1.0.1 in
-    let k : length s.users ≡ 2048 = simp length-map at x.1.1.1.0.1.0.1 in
+    let e : length s.sessions ≡ 8 = x.0.1.0.1 in
+    let f : length s.items ≡ 128 = x.1.0.1.0.1 in
+    let g : length s.rows ≡ 256 = x.1.1.0.1.0.1 in
+    let k : length s.users ≡ 2048 = x.1.1.1.0.1.0.1 in
     record { sessions = e; items = f; rows = g; users = k }
 
 pub part_whole : (t : Part) (vs : List Val) → Is (row part.the_type) t vs → Whole t
 part_whole t vs h =
     let x = h.1.1.1 in
-    let e : length t.items ≡ 16 = simp length-map at x.0.1.0.1 in
-    let f : length t.rows ≡ 32 = simp length-map at x.1.0.1.0.1 in
+    let e : length t.items ≡ 16 = x.0.1.0.1 in
+    let f : length t.rows ≡ 32 = x.1.0.1.0.1 in
     record { items = e; rows = f }
 
-each_whole : (l : List Part) (us : List Val) → shadow (each Part (row part.the_type).own l us) → (i : ℕ) → i < length l → (z : Part)
+each_whole : (l : List Part) (us : List Val) → shadow (each Part (row part.the_type).own_val l us) → (i : ℕ) → i < length l → (z : Part)
     → Whole (get_or l i z)
 each_whole [] us h i k z = absurd (omega arith)
 each_whole (t ∷ l) [] h i k z = absurd h

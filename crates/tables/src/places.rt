@@ -66,6 +66,7 @@ fn store_rows(all: [Row; 256], at: usize, part: [Row; 32]) -> [Row; 256]
     next
 }
 
+#[tactic(auto, unfolding(model::specs::State::load))]
 pub fn load_at(s: State, at: usize) -> Part
     requires { at < 8 }
     ensures { result ≡ spec.load s (at + 1) }
@@ -83,6 +84,7 @@ pub fn load_at(s: State, at: usize) -> Part
     }
 }
 
+#[tactic(auto, unfolding(model::specs::State::store))]
 pub fn store_at(s: State, at: usize, t: Part) -> State
     requires { at < 8 }
     ensures { result ≡ spec.store s (at + 1) t }
