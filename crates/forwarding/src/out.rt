@@ -39,6 +39,7 @@ fn sent(rows: [Row; 32], held: u8, a: u8, p: Packet) -> Effect
 }
 
 // out(a, packet): a node that did not create the packet takes one of its hops.
+#[tactic(auto, unfolding(model::specs::Rules::out_rule))]
 pub fn out(rows: [Row; 32], held: u8, a: u8, p: Packet) -> Effect
     ensures { result ≡ spec.out_rule (take held rows) a p }
 {

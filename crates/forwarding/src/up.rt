@@ -64,6 +64,7 @@ fn received(a: u8, b: u8, y: Payload) -> Effect
 }
 
 // up(a, packet): admit, match, then strip and forward, or receive.
+#[tactic(auto, unfolding(model::specs::Rules::up_rule))]
 pub fn up(users: &[u16; 2048], rows: [Row; 32], held: u8, a: u8, p: Packet) -> Effect
     ensures { result ≡ spec.up_rule (row.stands users.now false) (take held rows) a p }
 {

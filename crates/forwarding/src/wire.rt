@@ -99,6 +99,7 @@ fn arrived(a: u8, p: Packet) -> bool
 }
 
 // The first case that fits, where `gateway` tells whether `a` is one.
+#[tactic(auto, unfolding(model::specs::Rules::wire_rule))]
 fn first_fit(gateway: bool, n: Network, s: Session, a: u8, p: Packet) -> Effect
     ensures { result ≡ spec.wire_rule gateway (next_hop n a) s a p }
 {
