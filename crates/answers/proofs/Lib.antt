@@ -2,3 +2,4 @@
 pub mod Sets
 pub mod Writes
 pub mod Widths
+pub mod Credentials

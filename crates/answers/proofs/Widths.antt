@@ -19,7 +19,7 @@ use Rattle.calculus.specs.declared.answer.ShownAssociation.{ShownAssociation}
 use Rattle.calculus.specs.declared.network.Kind.{Kind}
 use Rattle.calculus.specs.contracts.answer.Answer.{the_type}
 use Rattle.forms.specs.Bytes.{bytes}
-use Rattle.forms.specs.Text.{list_text, node, route, form_line}
+use Rattle.forms.specs.Text.{list_text, route, form_line}
 use Rattle.forms.specs.Request.{node_of}
 use Rattle.forms.specs.Answer.{line_text, made_by_default_line, answer_text, association_line}
 use Rattle.forms.proofs.Decimal.{width_most}

@@ -18,6 +18,7 @@ fn put_made_by_default(out: &mut [u8], at: usize, n: u64) -> usize
 }
 
 // The caller has made sure of the room: no answer's line has more than 32 bytes.
+#[tactic(auto, unfolding(forms::specs::Answer::answer_text))]
 fn put_answer(out: &mut [u8], at: usize, answer: Answer) -> usize
     requires { at + 32 ≤ length out.old }
     ensures { Put out.old at (answer_text answer) out.new result }
