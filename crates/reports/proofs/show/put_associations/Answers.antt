@@ -1,0 +1,19 @@
+-- One line more, where there is one.
+use Rattle.std.proofs.Common.{◌≡◌, arith}
+use borrow.Author.Rules.{rules}
+use Rattle.model.specs.Requests.{shown}
+use Rattle.reports.proofs.Puts.{firsts_none, firsts_more}
+use Rattle.reports.proofs.show.put_associations.Goals as goal
+
+pub loop-i-init : goal.loop-i-init
+loop-i-init c = firsts_none
+
+pub loop-i-preserved : goal.loop-i-preserved
+loop-i-preserved c = firsts_more _ _ (omega arith) (search rules) c.loop-i.invariant c.put_association-next.ensures
+
+pub returns : goal.returns
+unfolding shown
+returns c =
+    let x = c.loop-i.invariant in
+    let e : c.loop-i.i ≡ 2048 = omega (arith, x.inside) in
+    rw e at x.puts
