@@ -1,3 +1,2 @@
--- Laws that belong to no one function, and the worked examples.
-pub mod Held
+-- The worked examples.
 pub mod Cases

@@ -1,6 +1,4 @@
-// A reader of lines: it holds the input and how far that is read. The borrow checker covers no function over such a struct,
-// so each is proved by hand, and thin: it takes the reader apart, and a covered function does the work on the input and the
-// place. Whoever has an input and a place calls `line_at`, and needs no such proof.
+// A reader of lines: it holds the input and how far that is read. Whoever has an input and a place calls `line_at`.
 #![tactic(auto)]
 
 ghost use Rattle.std.specs.Prelude.{◌≡◌};
