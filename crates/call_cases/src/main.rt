@@ -3,37 +3,36 @@
 // first dot and how many dots there are, then those bytes.
 #![tactic(auto)]
 
-ghost use Rattle.io.specs.Counts.{IsPrefixLen};
+ghost use Rattle.std.specs.Prelude.{◌≤◌, length, IfOk};
 
 use calculus::state::State;
 use forms::line::Line;
-use libc::{STDIN_FILENO, STDOUT_FILENO};
 use lines::line_at;
 use simulator::call::{Status, call};
+use std::io::{self, Print, Read};
 use tables::fresh::fresh;
 
-fn put(word: &[u8]) {
-    io::write_all(STDOUT_FILENO, word);
+fn put(rt: &HostRuntime, word: &[u8]) -> io::Result<()> {
+    rt.write_all(word)
 }
 
-fn put_number(n: u64) {
-    put(b" ");
-    io::print_decimal(STDOUT_FILENO, n);
+fn put_number(rt: &HostRuntime, n: u64) -> io::Result<()> {
+    print!(rt; " {n}")
 }
 
-fn put_status(status: Status) {
+fn put_status(rt: &HostRuntime, status: Status) -> io::Result<()> {
     match status {
-        Status::Answered => put(b"answered"),
+        Status::Answered => put(rt, b"answered"),
         Status::Refused(refusal) => {
-            put(b"refusal");
-            put_number(refusal.number() as u64);
+            put(rt, b"refusal")?;
+            put_number(rt, refusal.number() as u64)
         }
     }
 }
 
 // How many bytes stand before the first dot.
 fn first_dot(out: &[u8]) -> usize
-    ensures { IsPrefixLen result out.now }
+    ensures { result ≤ length out.now }
 {
     let mut i: usize = 0;
     while i < out.len() {
@@ -58,44 +57,43 @@ fn count_dots(out: &[u8]) -> usize {
 }
 
 // The call, and the state that it leaves.
-fn put_call(state: State, line: &[u8], out: &mut [u8]) -> State {
-    put(line);
-    put(b" with");
-    put_number(out.len() as u64);
-    put(b" bytes: ");
+fn put_call(rt: &HostRuntime, state: State, line: &[u8], out: &mut [u8]) -> io::Result<State> {
+    put(rt, line)?;
+    put(rt, b" with")?;
+    put_number(rt, out.len() as u64)?;
+    put(rt, b" bytes: ")?;
     let reply = call(state, line, out);
     let status = reply.status;
-    put_status(status);
-    put(b", written");
-    put_number(reply.written as u64);
+    put_status(rt, status)?;
+    put(rt, b", written")?;
+    put_number(rt, reply.written as u64)?;
     let n = first_dot(out);
-    put(b", before the dots");
-    put_number(n as u64);
-    put(b", dots");
+    put(rt, b", before the dots")?;
+    put_number(rt, n as u64)?;
+    put(rt, b", dots")?;
     let dots = count_dots(out);
-    put_number(dots as u64);
-    put(b"\n");
-    put(&out[..n]);
-    let left = reply.state;
-    left
+    put_number(rt, dots as u64)?;
+    put(rt, b"\n")?;
+    put(rt, &out[..n])?;
+    Ok(reply.state)
 }
 
 // A call that changed the state though it was refused for its output would show in the call after it.
-fn put_both(state: State, line: &[u8]) -> State {
+fn put_both(rt: &HostRuntime, state: State, line: &[u8]) -> io::Result<State> {
     let mut short = [b'.'; 65535];
     let mut enough = [b'.'; 65536];
-    let left = put_call(state, line, &mut short);
-    put_call(left, line, &mut enough)
+    let left = put_call(rt, state, line, &mut short)?;
+    put_call(rt, left, line, &mut enough)
 }
 
 // The lines of `text`, one after the other, from a fresh state.
-fn put_lines(text: &[u8]) {
+fn put_lines(rt: &HostRuntime, text: &[u8]) -> io::Result<()> {
     let mut state = fresh();
     let mut from: usize = 0;
     loop {
         match line_at(text, from) {
             Line::Found { stop, next } => {
-                state = put_both(state, &text[from..stop]);
+                state = put_both(rt, state, &text[from..stop])?;
                 from = next;
             }
             Line::End => {
@@ -103,10 +101,26 @@ fn put_lines(text: &[u8]) {
             }
         }
     }
+    Ok(())
 }
 
-fn main() {
+// Reads until the buffer is full or the input ends: how many bytes came.
+fn read_full(rt: &HostRuntime, buffer: &mut [u8]) -> io::Result<usize>
+    ensures { IfOk result (λ n. n ≤ length buffer.new) }
+{
+    let mut size: usize = 0;
+    while size < buffer.len() {
+        let count = rt.stdin().read(&mut buffer[size..])?;
+        if count == 0 {
+            return Ok(size);
+        }
+        size += count;
+    }
+    Ok(size)
+}
+
+fn main(rt: HostRuntime) -> io::Result<()> {
     let mut input = [0u8; 8192];
-    let n = io::read_full(STDIN_FILENO, &mut input);
-    put_lines(&input[..n]);
+    let n = read_full(&rt, &mut input)?;
+    put_lines(&rt, &input[..n])
 }

@@ -1,6 +1,8 @@
 // Writes what each line of the input asks, then answers of each kind, with every loss and every refusal, then lines of reports.
 #![tactic(auto)]
 
+ghost use Rattle.std.specs.Prelude.{◌≤◌, length, IfOk};
+
 use answers::report::{write_association, write_end, write_node, write_route};
 use answers::write::write;
 use calculus::answer::{Answer, Loss, Refusal, ShownAssociation};
@@ -9,159 +11,158 @@ use calculus::number::{ItemNumber, Spi};
 use calculus::request::{Request, Sender};
 use forms::line::{Line, next_line};
 use forms::read::{Parsed, read};
-use libc::{STDIN_FILENO, STDOUT_FILENO};
+use std::io::{self, Print, Read};
 
-fn put(word: &[u8]) {
-    io::write_all(STDOUT_FILENO, word);
+fn put(rt: &HostRuntime, word: &[u8]) -> io::Result<()> {
+    rt.write_all(word)
 }
 
-fn put_number(n: u64) {
-    put(b" ");
-    io::print_decimal(STDOUT_FILENO, n);
+fn put_number(rt: &HostRuntime, n: u64) -> io::Result<()> {
+    print!(rt; " {n}")
 }
 
 // An answer at place 4 of forty dots, and all forty.
-fn put_answer(answer: Answer) {
+fn put_answer(rt: &HostRuntime, answer: Answer) -> io::Result<()> {
     let mut out = [b'.'; 40];
     write(&mut out, 4, answer);
-    put(&out);
-    put(b"\n");
+    put(rt, &out)?;
+    put(rt, b"\n")
 }
 
-fn put_credentials(name: &[u8], set: [bool; 64]) {
-    put(name);
+fn put_credentials(rt: &HostRuntime, name: &[u8], set: [bool; 64]) -> io::Result<()> {
+    put(rt, name)?;
     let mut i: usize = 0;
     while i < 64 {
         if set[i] {
-            put_number(i as u64);
+            put_number(rt, i as u64)?;
         }
         i += 1;
     }
-    put(b")");
+    put(rt, b")")
 }
 
-fn put_node(node: u8, kind: Kind) {
-    put(b"node");
-    put_number(node as u64);
+fn put_node(rt: &HostRuntime, node: u8, kind: Kind) -> io::Result<()> {
+    put(rt, b"node")?;
+    put_number(rt, node as u64)?;
     match kind {
-        Kind::Host => put(b" host"),
-        Kind::Gateway => put(b" gate"),
+        Kind::Host => put(rt, b" host"),
+        Kind::Gateway => put(rt, b" gate"),
     }
 }
 
-fn put_send(session: u8, sender: Sender, tag: u32) {
-    put(b"send");
-    put_number(session as u64);
+fn put_send(rt: &HostRuntime, session: u8, sender: Sender, tag: u32) -> io::Result<()> {
+    put(rt, b"send")?;
+    put_number(rt, session as u64)?;
     match sender {
-        Sender::Client => put(b" client"),
-        Sender::Server => put(b" server"),
+        Sender::Client => put(rt, b" client")?,
+        Sender::Server => put(rt, b" server")?,
     }
-    put_number(tag as u64);
+    put_number(rt, tag as u64)
 }
 
-fn put_three(word: &[u8], a: u8, b: u8, c: u8) {
-    put(word);
-    put_number(a as u64);
-    put_number(b as u64);
-    put_number(c as u64);
+fn put_three(rt: &HostRuntime, word: &[u8], a: u8, b: u8, c: u8) -> io::Result<()> {
+    put(rt, word)?;
+    put_number(rt, a as u64)?;
+    put_number(rt, b as u64)?;
+    put_number(rt, c as u64)
 }
 
-fn put_request(request: Request) {
+fn put_request(rt: &HostRuntime, request: Request) -> io::Result<()> {
     match request {
-        Request::Node(node, kind) => put_node(node, kind),
+        Request::Node(node, kind) => put_node(rt, node, kind),
         Request::Route {
             at,
             destination,
             next,
-        } => put_three(b"route", at, destination, next),
+        } => put_three(rt, b"route", at, destination, next),
         Request::Open {
             session,
             client,
             server,
-        } => put_three(b"open", session.0, client, server),
+        } => put_three(rt, b"open", session.0, client, server),
         Request::Step(session, item) => {
-            put(b"step");
-            put_number(session.0 as u64);
-            put_number(item.0 as u64);
+            put(rt, b"step")?;
+            put_number(rt, session.0 as u64)?;
+            put_number(rt, item.0 as u64)
         }
-        Request::Send(session, sender, tag) => put_send(session.0, sender, tag),
+        Request::Send(session, sender, tag) => put_send(rt, session.0, sender, tag),
         Request::Close(session) => {
-            put(b"close");
-            put_number(session.0 as u64);
+            put(rt, b"close")?;
+            put_number(rt, session.0 as u64)
         }
-        Request::Show => put(b"show"),
-        Request::Net => put(b"net"),
+        Request::Show => put(rt, b"show"),
+        Request::Net => put(rt, b"net"),
         Request::Drop(session, establishment) => {
-            put(b"drop");
-            put_number(session.0 as u64);
-            put_number(establishment as u64);
+            put(rt, b"drop")?;
+            put_number(rt, session.0 as u64)?;
+            put_number(rt, establishment as u64)
         }
     }
 }
 
 // A line, and what it asks.
-fn put_line(line: &[u8]) {
-    put(line);
-    put(b" -> ");
+fn put_line(rt: &HostRuntime, line: &[u8]) -> io::Result<()> {
+    put(rt, line)?;
+    put(rt, b" -> ")?;
     let reading = read(line);
     let parsed = reading.parsed;
     match parsed {
         Parsed::Asks(request) => {
             let has = reading.has;
             let needs = reading.needs;
-            put_request(request);
-            put_credentials(b" (has", has);
-            put_credentials(b" (needs", needs);
+            put_request(rt, request)?;
+            put_credentials(rt, b" (has", has)?;
+            put_credentials(rt, b" (needs", needs)?;
         }
         Parsed::Refused(refusal) => {
-            put(b"refusal");
-            put_number(refusal.number() as u64);
+            put(rt, b"refusal")?;
+            put_number(rt, refusal.number() as u64)?;
         }
     }
-    put(b"\n");
+    put(rt, b"\n")
 }
 
-fn put_refusals() {
-    put_answer(Answer::No(Refusal::Short));
-    put_answer(Answer::No(Refusal::Unreadable));
-    put_answer(Answer::No(Refusal::Range));
-    put_answer(Answer::No(Refusal::Double));
-    put_answer(Answer::No(Refusal::Unknown));
-    put_answer(Answer::No(Refusal::Late));
-    put_answer(Answer::No(Refusal::Taken));
-    put_answer(Answer::No(Refusal::Idle));
-    put_answer(Answer::No(Refusal::Same));
-    put_answer(Answer::No(Refusal::Gateway));
-    put_answer(Answer::No(Refusal::Spent));
-    put_answer(Answer::No(Refusal::NoItem));
-    put_answer(Answer::No(Refusal::Waiting));
-    put_answer(Answer::No(Refusal::Full));
-    put_answer(Answer::No(Refusal::Clash));
-    put_answer(Answer::No(Refusal::Unsorted));
-    put_answer(Answer::No(Refusal::Busy));
-    put_answer(Answer::No(Refusal::NoSuchTunnel));
+fn put_refusals(rt: &HostRuntime) -> io::Result<()> {
+    put_answer(rt, Answer::No(Refusal::Short))?;
+    put_answer(rt, Answer::No(Refusal::Unreadable))?;
+    put_answer(rt, Answer::No(Refusal::Range))?;
+    put_answer(rt, Answer::No(Refusal::Double))?;
+    put_answer(rt, Answer::No(Refusal::Unknown))?;
+    put_answer(rt, Answer::No(Refusal::Late))?;
+    put_answer(rt, Answer::No(Refusal::Taken))?;
+    put_answer(rt, Answer::No(Refusal::Idle))?;
+    put_answer(rt, Answer::No(Refusal::Same))?;
+    put_answer(rt, Answer::No(Refusal::Gateway))?;
+    put_answer(rt, Answer::No(Refusal::Spent))?;
+    put_answer(rt, Answer::No(Refusal::NoItem))?;
+    put_answer(rt, Answer::No(Refusal::Waiting))?;
+    put_answer(rt, Answer::No(Refusal::Full))?;
+    put_answer(rt, Answer::No(Refusal::Clash))?;
+    put_answer(rt, Answer::No(Refusal::Unsorted))?;
+    put_answer(rt, Answer::No(Refusal::Busy))?;
+    put_answer(rt, Answer::No(Refusal::NoSuchTunnel))
 }
 
-fn put_losses() {
-    put_answer(Answer::Lost(Loss::Unprotected));
-    put_answer(Answer::Lost(Loss::HopLimit));
-    put_answer(Answer::Lost(Loss::NoRoute));
-    put_answer(Answer::Lost(Loss::NoTunnel));
-    put_answer(Answer::Lost(Loss::WrongTunnel));
-    put_answer(Answer::Lost(Loss::Exhausted));
+fn put_losses(rt: &HostRuntime) -> io::Result<()> {
+    put_answer(rt, Answer::Lost(Loss::Unprotected))?;
+    put_answer(rt, Answer::Lost(Loss::HopLimit))?;
+    put_answer(rt, Answer::Lost(Loss::NoRoute))?;
+    put_answer(rt, Answer::Lost(Loss::NoTunnel))?;
+    put_answer(rt, Answer::Lost(Loss::WrongTunnel))?;
+    put_answer(rt, Answer::Lost(Loss::Exhausted))
 }
 
-fn put_answers() {
-    put_answer(Answer::Ok);
-    put_answer(Answer::Made(ItemNumber(3)));
-    put_answer(Answer::MadeByDefault(ItemNumber(1000000)));
-    put_answer(Answer::MadeTwo(ItemNumber(999999), ItemNumber(1000000)));
-    put_answer(Answer::Denied);
-    put_answer(Answer::Opened);
-    put_answer(Answer::Delivered(4294967295));
-    put_answer(Answer::Closed);
-    put_losses();
-    put_refusals();
+fn put_answers(rt: &HostRuntime) -> io::Result<()> {
+    put_answer(rt, Answer::Ok)?;
+    put_answer(rt, Answer::Made(ItemNumber(3)))?;
+    put_answer(rt, Answer::MadeByDefault(ItemNumber(1000000)))?;
+    put_answer(rt, Answer::MadeTwo(ItemNumber(999999), ItemNumber(1000000)))?;
+    put_answer(rt, Answer::Denied)?;
+    put_answer(rt, Answer::Opened)?;
+    put_answer(rt, Answer::Delivered(4294967295))?;
+    put_answer(rt, Answer::Closed)?;
+    put_losses(rt)?;
+    put_refusals(rt)
 }
 
 // ---- lines of reports, each put as an answer is
@@ -176,79 +177,97 @@ fn association() -> ShownAssociation {
     }
 }
 
-fn put_association(x: ShownAssociation) {
+fn put_association(rt: &HostRuntime, x: ShownAssociation) -> io::Result<()> {
     let mut out = [b'.'; 40];
     write_association(&mut out, 4, x);
-    put(&out);
-    put(b"\n");
+    put(rt, &out)?;
+    put(rt, b"\n")
 }
 
-fn put_end() {
+fn put_end(rt: &HostRuntime) -> io::Result<()> {
     let mut out = [b'.'; 40];
     write_end(&mut out, 4);
-    put(&out);
-    put(b"\n");
+    put(rt, &out)?;
+    put(rt, b"\n")
 }
 
 // The place behind a line, then the bytes that it stands in.
-fn put_written(next: usize, out: &[u8]) {
-    put_number(next as u64);
-    put(b" ");
-    put(out);
-    put(b"\n");
+fn put_written(rt: &HostRuntime, next: usize, out: &[u8]) -> io::Result<()> {
+    put_number(rt, next as u64)?;
+    put(rt, b" ")?;
+    put(rt, out)?;
+    put(rt, b"\n")
 }
 
-fn put_route() {
+fn put_route(rt: &HostRuntime) -> io::Result<()> {
     let mut out = [b'.'; 40];
     let next = write_route(&mut out, 4, 32, 1, 31);
-    put_written(next, &out);
+    put_written(rt, next, &out)
 }
 
 // A gateway that has three credentials and needs all, at place 4.
-fn put_gateway(out: &mut [u8]) {
+fn put_gateway(rt: &HostRuntime, out: &mut [u8]) -> io::Result<()> {
     let mut has = [false; 64];
     has[0] = true;
     has[9] = true;
     has[63] = true;
     let next = write_node(out, 4, 32, Kind::Gateway, has, [true; 64]);
-    put_written(next, out);
+    put_written(rt, next, out)
 }
 
 // Where one byte too few is left nothing is written, and the place stays.
-fn put_nothing() {
+fn put_nothing(rt: &HostRuntime) -> io::Result<()> {
     let mut out = [b'.'; 35];
-    put_number(write(&mut out, 4, Answer::Ok) as u64);
-    put_number(write_association(&mut out, 4, association()) as u64);
-    put_number(write_end(&mut out, 4) as u64);
+    put_number(rt, write(&mut out, 4, Answer::Ok) as u64)?;
+    put_number(rt, write_association(&mut out, 4, association()) as u64)?;
+    put_number(rt, write_end(&mut out, 4) as u64)?;
     let next = write_route(&mut out, 4, 1, 4, 2);
-    put_written(next, &out);
-    put_gateway(&mut [b'.'; 403]);
+    put_written(rt, next, &out)?;
+    put_gateway(rt, &mut [b'.'; 403])
 }
 
-fn put_reports() {
-    put_association(association());
-    put_association(ShownAssociation {
-        node: 32,
-        out: true,
-        peer: 31,
-        spi: Spi::between(31, 32),
-        users: 65535,
-    });
-    put_end();
-    put_route();
-    put_gateway(&mut [b'.'; 404]);
-    put_nothing();
+fn put_reports(rt: &HostRuntime) -> io::Result<()> {
+    put_association(rt, association())?;
+    put_association(
+        rt,
+        ShownAssociation {
+            node: 32,
+            out: true,
+            peer: 31,
+            spi: Spi::between(31, 32),
+            users: 65535,
+        },
+    )?;
+    put_end(rt)?;
+    put_route(rt)?;
+    put_gateway(rt, &mut [b'.'; 404])?;
+    put_nothing(rt)
 }
 
-fn main() {
+// Reads until the buffer is full or the input ends: how many bytes came.
+fn read_full(rt: &HostRuntime, buffer: &mut [u8]) -> io::Result<usize>
+    ensures { IfOk result (λ n. n ≤ length buffer.new) }
+{
+    let mut size: usize = 0;
+    while size < buffer.len() {
+        let count = rt.stdin().read(&mut buffer[size..])?;
+        if count == 0 {
+            return Ok(size);
+        }
+        size += count;
+    }
+    Ok(size)
+}
+
+fn main(rt: HostRuntime) -> io::Result<()> {
     let mut input = [0u8; 8192];
-    let n = io::read_full(STDIN_FILENO, &mut input);
+    let n = read_full(&rt, &mut input)?;
     let text = &input[..n];
     let mut from = 0;
     loop {
         match next_line(text, from) {
             Line::Found { stop, next } => {
-                put_line(&text[from..stop]);
+                put_line(&rt, &text[from..stop])?;
                 from = next;
             }
             Line::End => {
@@ -256,6 +275,6 @@ fn main() {
             }
         }
     }
-    put_answers();
-    put_reports();
+    put_answers(&rt)?;
+    put_reports(&rt)
 }
