@@ -105,13 +105,13 @@ module _ (f g : File) (size : ℕ) where
     join_first e = rw (le-ltb size 65536 h, sym v.sorted ∙ e)
 
     module _ {y : Contents} (w : Finds g y) (e : x.sorted ≡ true) where
-      pub join-second : y.sorted ≡ false → join f g size ≡ refused_join Unsorted
+      pub join_second : y.sorted ≡ false → join f g size ≡ refused_join Unsorted
       unfolding join
-      join-second d = rw (le-ltb size 65536 h, sym v.sorted ∙ e, sym w.sorted ∙ d)
+      join_second d = rw (le-ltb size 65536 h, sym v.sorted ∙ e, sym w.sorted ∙ d)
 
-      pub join-both : y.sorted ≡ true → join f g size ≡ join_networks x.network y.network
+      pub join_both : y.sorted ≡ true → join f g size ≡ join_networks x.network y.network
       unfolding join
-      join-both d =
+      join_both d =
           let p = sym v.sorted ∙ e in
           let q = sym w.sorted ∙ d in
           rw (le-ltb size 65536 h, p, q, v.network p, w.network q)

@@ -1,4 +1,6 @@
 -- Laws that belong to no one function.
-pub mod LinesRead
-pub mod Merges
+pub mod Clashes
 pub mod JoinCases
+pub mod LinesRead
+pub mod Matches
+pub mod Merges

@@ -1,14 +1,13 @@
 -- The lines of two networks' texts, put one after the other: the text of the union. Assumes nothing.
-use mathlib.Core.Path.{◌≡◌, ap, ◌∙◌}
-use mathlib.Core.List.{List, [], ◌∷◌, ◌++◌, append_assoc, append-nil}
-use Prim.Native.Nat.{ℕ, ◌+◌, ◌-◌, ◌≤◌, ◌<◌}
+use mathlib.Core.Path.{◌≡◌, refl, ap, ◌∙◌}
+use mathlib.Core.List.{List, [], ◌∷◌, ◌++◌, append_assoc}
+use Prim.Native.Nat.{ℕ, ◌+◌, ◌≤◌, ◌<◌}
 use native.Mathlib.Omega.{arith}
 use borrow.Author.Tests.{lt-ltb, le-ltb}
-use lib.ListN.{length, take, drop, length-append, length-drop, drop_of_length-le}
+use lib.ListN.{length, take, drop, length-append, length-drop}
 use lib.Seq.{length-take-le, take-add, take-length, drop-drop, take_at, drop_at, take-append_seam}
 use Rattle.calculus.specs.declared.network.Network.{Network}
 use Rattle.forms.specs.Bytes.{joined}
-use Rattle.forms.proofs.Parts as parts
 use Rattle.model.specs.Join.{place_lines, together, union}
 use Rattle.model.specs.NetworkText.{network_text}
 use Rattle.model.specs.Union.{IsTextOf}
@@ -16,7 +15,7 @@ use Rattle.model.proofs.GivenBack.{given_back}
 use Rattle.model.proofs.Union.{unions}
 use Rattle.model.proofs.PlaceLines.{first_of, union_places, text_places}
 use Rattle.joins.specs.Front.{Front}
-use Rattle.joins.proofs.LinesRead.{Unread, unread_less, lines_left, LineRead}
+use Rattle.joins.proofs.LinesRead.{Unread, unread_all, unread_less, lines_left, LineRead, text_unread}
 
 -- ---- the whole text
 
@@ -46,6 +45,16 @@ pub record Merging (n m : Network) (a b out₀ out : List ℕ) (i j end k : ℕ)
   pub width : length (network_text (union n m)) ≤ length out₀
   pub bytes : out ≡ take end (network_text (union n m)) ++ drop end out₀
 
+pub merging_none : {n m : Network} {a b out : List ℕ} → IsTextOf a n × IsTextOf b m → 65536 ≤ length out → Merging n m a b out out 0 0 0 0
+merging_none g h =
+    record {
+      first = text_unread g.0;
+      second = text_unread g.1;
+      whole = unread_all (whole_lines g);
+      width = omega (arith, whole_width g);
+      bytes = refl;
+    }
+
 module _ {n m : Network} {a b out₀ out : List ℕ} {i j end k : ℕ} (s : Merging n m a b out₀ out i j end k) where
   abbrev text : List ℕ
   text = network_text (union n m)
@@ -66,27 +75,24 @@ module _ {n m : Network} {a b out₀ out : List ℕ} {i j end k : ℕ} (s : Merg
       record { size = all; bytes = s.bytes ∙ rw (all, take-length) }
 
   module _ {x y line : List ℕ} (p : LineRead n a k i x) (q : LineRead m b k j y) (e : line ≡ first_of x y) where
-    next-line : Unread text end (line ∷ together first_of (lines_left n (k + 1)) (lines_left m (k + 1)))
+    next_line : Unread text end (line ∷ together first_of (lines_left n (k + 1)) (lines_left m (k + 1)))
     unfolding together
-    next-line = rw e (rw (p.line, q.line) at s.whole)
+    next_line = rw e (rw (p.line, q.line) at s.whole)
 
-    pub merging-end : end + length line ≤ length text
-    merging-end = (unread_less next-line).inside
+    pub merging_end : end + length line ≤ length text
+    merging_end = (unread_less next_line).inside
 
-    -- the part of the output behind `end` is lent, and comes back with the line at its front
-    pub merging-more : {size : ℕ} {part ofA ofB : List ℕ} → size ≡ length line
-        → part ≡ take (length line) line ++ drop (length line) (take (length out - end) (drop end out)) → ofA ≡ x → ofB ≡ y
-        → Merging n m a b out₀ (take end out ++ (part ++ drop (length out - end) (drop end out))) (i + length ofA) (j + length ofB) (end + size) (k + 1)
-    merging-more {size} {part} z w u v =
+    -- the part of the output from `end` on that the line takes is lent, and comes back as the line
+    pub merging_more : {size : ℕ} {part of_a of_b : List ℕ} → size ≡ length line → part ≡ line → of_a ≡ x → of_b ≡ y
+        → Merging n m a b out₀ (take end out ++ (part ++ drop size (drop end out))) (i + length of_a) (j + length of_b) (end + length line) (k + 1)
+    merging_more z w u v =
         let put : take end out ≡ take end text = ap (take end) s.bytes ∙ take_at (take end text) (drop end out₀) end front in
         let old : drop end out ≡ drop end out₀ = ap (drop end) s.bytes ∙ drop_at (take end text) (drop end out₀) end front in
-        let lent : take (length out - end) (drop end out) ≡ drop end out = parts.rest (λ (l : List ℕ). l) end out in
-        let rest : drop (length out - end) (drop end out) ≡ [] = drop_of_length-le (drop end out) {i = length out - end} (omega (arith, length-drop end out)) in
-        let more : take (end + length line) text ≡ take end text ++ line = take-add end (length line) text ∙ rw (next-line.rest, take-append_seam) in
-        rw (z, u, v) record {
+        let more : take (end + length line) text ≡ take end text ++ line = take-add end (length line) text ∙ rw (next_line.rest, take-append_seam) in
+        rw (u, v) record {
           first = p.more;
           second = q.more;
-          whole = unread_less next-line;
+          whole = unread_less next_line;
           width = s.width;
-          bytes = rw (w, rest, lent, put, old, more, take-length, drop-drop, append-nil, append_assoc);
+          bytes = rw (w, z, put, old, more, drop-drop, append_assoc);
         }

@@ -87,7 +87,8 @@ pub fn merge<'a>(a: &'a [u8], b: &'a [u8], n: Network, m: Network, out: &mut [u8
         let in_a = has_entry(n, k);
         let in_b = has_entry(m, k);
         let line = next_part(a, b, i, j, in_a, in_b);
-        let size = bytes::copy(line, &mut out[end..]);
+        let size = line.len();
+        out[end..end + size].copy_from_slice(line);
         end += size;
         let of_a = line_part(a, i, in_a);
         let of_b = line_part(b, j, in_b);
