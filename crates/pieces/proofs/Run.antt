@@ -2,7 +2,7 @@
 use mathlib.Core.Path.{◌≡◌, refl, sym, ap, ◌∙◌}
 use mathlib.Core.Bool.{true, false}
 use mathlib.Core.List.{List, [], ◌∷◌, ◌++◌, append_assoc, append-nil}
-use Prim.Native.Nat.{ℕ, ◌+◌, ◌-◌, ◌≤◌, min}
+use Prim.Native.Nat.{ℕ, ◌+◌, ◌≤◌, min}
 use native.Mathlib.Omega.{arith}
 use lib.ListN.{length, take, drop}
 use lib.Seq.{take-append_seam, drop-drop, slice}
@@ -15,7 +15,7 @@ use Rattle.model.specs.Texts.{NoNewline, after_lines, answers_to}
 use Rattle.model.specs.Stream.{Stream, Event, arrives, lent, after_event, streamed, input_of, has_line, too_long}
 use Rattle.model.proofs.Stream.{streams}
 use Rattle.pieces.specs.declared.Progress.{Progress}
-use Rattle.pieces.specs.Progress.{started, stream_of, is_end, Advanced, line_left, no_line_left, answered_into, ended, advanced}
+use Rattle.pieces.specs.Progress.{started, stream_of, is_end, Advanced, answered_into, ended, advanced}
 use Rattle.pieces.specs.Run.{written_by, Run, begun, went, Runs}
 use Rattle.pieces.proofs.Spans.{part_again, part_more}
 use Rattle.pieces.proofs.Lines.{no_newline, all_kept, kept_none}

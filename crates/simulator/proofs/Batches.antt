@@ -12,7 +12,7 @@ use Rattle.calculus.specs.declared.network.Network.{Network}
 use Rattle.calculus.specs.declared.state.Moved.{Moved}
 use Rattle.calculus.specs.declared.state.Part.{Part}
 use Rattle.calculus.specs.declared.state.State.{State}
-use Rattle.calculus.proofs.Tests.{is, clash, within_bounds}
+use Rattle.calculus.proofs.Tests.{clash, within_bounds}
 use Rattle.forms.specs.declared.line.Line.TheVariants.{Found, End}
 use Rattle.forms.specs.declared.read.Reading.{Reading}
 use Rattle.forms.specs.Line.{next_line}

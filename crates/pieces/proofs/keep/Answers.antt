@@ -1,9 +1,9 @@
 -- What a round of the loop reads stands behind what the rounds before wrote.
-use Rattle.std.proofs.Common.{rules, arith, ◌≡◌, ℕ, ◌+◌, ◌≤◌, ◌<◌, List, ◌++◌, length, get_or, take, drop, sym, ap, ◌∙◌, length-drop, get_or-drop}
+use Rattle.std.proofs.Common.{rules, arith, ◌≡◌, ℕ, ◌+◌, ◌≤◌, ◌<◌, List, length, get_or, drop, sym, ap, ◌∙◌, length-drop, get_or-drop}
 use native.Mathlib.Nat.{zero-add}
 use lib.ListN.{set}
 use lib.Seq.{drop-paste}
-use Rattle.tables.proofs.Copies.{Loaded, loaded_more, stored_all}
+use Rattle.tables.proofs.Copies.{Loaded, loaded_more}
 use Rattle.pieces.proofs.keep.Goals as goal
 
 -- of n rounds i are done: m is l with its first i bytes replaced by those of l from `from` on
@@ -20,12 +20,5 @@ module _ {l m : List ℕ} {from n i : ℕ} (w : Loaded l from l n m i) (k : from
       simp flip (sym (get_or-drop i m from 0) ∙ ap (λ (x : List ℕ). get_or x from 0) rest-same ∙ get_or-drop i l from 0) in
       rw byte (loaded_more w 0 h (omega arith) k)
 
-  moved_all : n ≤ i → m ≡ take n (drop from l) ++ drop n l
-  moved_all h = rw zero-add at (stored_all w.stored h)
-
 pub loop-i-preserved : goal.loop-i-preserved
 loop-i-preserved c = (search rules, moved_more c.loop-i.invariant.1 (omega arith) (omega arith))
-
-pub returns : goal.returns
-returns c =
-    record { count = c.least-n.ensures; bytes = moved_all c.loop-i.invariant.1 (omega arith) (omega arith) }

@@ -1,5 +1,5 @@
 -- A line that is found is one more call; where none is found, no further call is to be made.
-use Rattle.std.proofs.Common.{rules, arith, ◌≡◌, ◌-◌, ◌≤◌, length, sym}
+use Rattle.std.proofs.Common.{rules, arith, ◌-◌, ◌≤◌, length, sym}
 use Rattle.model.proofs.Parts.{Whole}
 use Rattle.simulator.proofs.Batches.{answering_first, answering_more, answering_over, answering_last}
 use Rattle.simulator.proofs.Batches.{Next, next_found, Reads, reads_numbered}
@@ -41,9 +41,6 @@ loop-going-preserved-in-Found c =
     c.read-reading.result (record { same = c.read-reading.ensures }) c.session_of-session.result.0 (rw c.session_of-session.ensures)
     c.turn-moved.result c.turn-moved.new.users _ c.turn-moved.ensures.0 c.turn-moved.ensures.1 w c.is_opened-opened.result
     c.is_opened-opened.ensures c.network_after-network.result c.network_after-network.ensures c.write_lines-written.ensures
-
-pub loop-going-smaller : goal.loop-going-smaller
-loop-going-smaller c = rw c.loop-going-test.true (omega arith)
 
 pub loop-going-preserved : goal.loop-going-preserved
 loop-going-preserved c = answering_over c.loop-going.invariant (sym c.in-End.ensures)
