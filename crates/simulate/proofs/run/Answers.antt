@@ -1,5 +1,6 @@
 use Rattle.std.proofs.Common.{sym}
 use Rattle.std.proofs.Common.{sym, length-take-le}
+use Rattle.pieces.proofs.Inside.{advance_inside}
 use Rattle.simulate.proofs.run.Goals as goal
 
 pub slice_bounds-write_out-end : goal.slice_bounds-write_out-end
