@@ -17,7 +17,7 @@ use Rattle.calculus.specs.declared.state.State.{State}
 use Rattle.forms.specs.Text.{take_down}
 use Rattle.forms.specs.Read.{read}
 use Rattle.forms.specs.Request.{plain, in_range}
-use Rattle.model.specs.Lists.{place, tally, those}
+use Rattle.model.specs.Lists.{tally, those}
 use Rattle.model.specs.Row.{held, is_of, is_other, place_out, place_node, place_peer, users_of}
 use Rattle.model.specs.State.{fresh, load}
 use Rattle.model.specs.Requests.{Move, refuse, dropping, drop_move, performed}
