@@ -100,7 +100,11 @@ impl Running {
     }
 
     pub fn wait(&mut self) -> ExitStatus {
-        let deadline = Instant::now() + LIMIT;
+        self.wait_within(LIMIT)
+    }
+
+    pub fn wait_within(&mut self, limit: Duration) -> ExitStatus {
+        let deadline = Instant::now() + limit;
         loop {
             if let Some(status) = self.child.try_wait().expect("the program is waited for") {
                 return status;
@@ -141,7 +145,11 @@ impl Whole {
 
     /// The whole, once it has ended; an end past the limit fails the test.
     pub fn receive(&self) -> Vec<u8> {
-        self.0.recv_timeout(LIMIT).expect("the program ends its output in time")
+        self.receive_within(LIMIT)
+    }
+
+    pub fn receive_within(&self, limit: Duration) -> Vec<u8> {
+        self.0.recv_timeout(limit).expect("the program ends its output in time")
     }
 }
 

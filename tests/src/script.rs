@@ -1,12 +1,15 @@
 //! Runs the scripts `./simulate` and `./join`, also on a terminal.
 
-use crate::program::{Running, Whole, LIMIT};
+use crate::program::{Running, Whole};
 use std::io::{Read, Write};
 use std::path::{Path, PathBuf};
 use std::process::{ChildStdin, Command, Stdio};
 use std::sync::{Arc, Mutex};
 use std::thread::{self, JoinHandle};
 use std::time::{Duration, Instant};
+
+/// The longest that a script, which may prove a small repository beside other tests that do, or the wait for what it shows may take.
+const LIMIT: Duration = Duration::from_secs(900);
 
 /// A file or folder of this repository.
 pub fn here(path: &str) -> PathBuf {
@@ -31,9 +34,9 @@ pub struct UnderWay {
 
 impl UnderWay {
     pub fn end(mut self) -> Ended {
-        let text = |whole: Whole| String::from_utf8(whole.receive()).expect("the output is text");
+        let text = |whole: Whole| String::from_utf8(whole.receive_within(LIMIT)).expect("the output is text");
         let (answers, messages) = (text(self.answers), text(self.messages));
-        Ended { status: self.running.wait().code(), answers, messages }
+        Ended { status: self.running.wait_within(LIMIT).code(), answers, messages }
     }
 }
 
@@ -94,7 +97,7 @@ impl Terminal {
     /// The status, as a shell tells it, and all that was shown, once the run has ended.
     pub fn end(self) -> (Option<i32>, String) {
         let Terminal { mut running, keyboard: _until_it_ends, shown, reader } = self;
-        let status = running.wait().code();
+        let status = running.wait_within(LIMIT).code();
         reader.join().expect("the screen is read");
         (status, so_far(&shown))
     }

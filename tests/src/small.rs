@@ -60,25 +60,31 @@ impl Drop for Folder {
 }
 
 /// Copies its input, of 64 bytes at most, to its output.
-const PROGRAM: &str = "fn main() {
+const PROGRAM: &str = "#![tactic(auto)]
+
+use std::io::{Print, Read};
+
+fn main(rt: HostRuntime) {
     let mut buffer = [0u8; 64];
-    let got = libc::read(0, &mut buffer);
-    let n = io::count(got, &buffer);
-    io::write_all(1, &buffer[..n]);
+    if let Ok(n) = rt.stdin().read(&mut buffer) {
+        let _ = rt.write_all(&buffer[..n]);
+    }
 }
 ";
 
 /// The programs `simulate` and `join` copy their input. `simulate` rests on `one`, and on `two` and `three`, which rest on `one`;
-/// `join` rests on `one`. Nothing is built.
+/// `join` rests on `one`. Nothing is built, and its texts are no other repository's, so that rt takes no proof of another.
 pub fn repository() -> Folder {
     let folder = Folder::temporary();
     folder.copy(&["simulate", "join", "tools"].map(here));
     folder.write(
         "crates.txt",
-        "# NAME: rests on\none:\ntwo: one\nthree: one\nother: one\njoin: one io libc\nsimulate: two three one io libc\n",
+        "# NAME: rests on\none:\ntwo: one\nthree: one\nother: one\njoin: one\nsimulate: two three one\n",
     );
     for name in ["one", "two", "three", "other"] {
-        folder.write(&format!("crates/{name}/src/lib.rt"), format!("pub fn {name}() -> usize {{\n    7\n}}\n"));
+        let place = folder.path("");
+        let text = format!("// {}\n#![tactic(auto)]\n\npub fn {name}() -> usize {{\n    7\n}}\n", place.display());
+        folder.write(&format!("crates/{name}/src/lib.rt"), text);
     }
     for program in ["simulate", "join"] {
         folder.write(&format!("crates/{program}/src/main.rt"), PROGRAM);
@@ -86,9 +92,16 @@ pub fn repository() -> Folder {
     folder
 }
 
-/// The processes that run in a folder.
+/// What is built in such a folder, or left by a proof.
+pub fn made_in(folder: &Folder) -> Vec<PathBuf> {
+    let crates = fs::read_dir(folder.path("crates")).expect("the crates are listed");
+    let outs = crates.map(|entry| entry.expect("a crate is read").path().join("out"));
+    outs.chain([folder.path("target")]).filter(|path| path.exists()).collect()
+}
+
+/// The processes that run in a folder, or in one below it.
 pub fn processes_in(folder: &Path) -> Vec<PathBuf> {
     let all =
         fs::read_dir("/proc").expect("the processes are listed").map(|entry| entry.expect("an entry is read").path());
-    all.filter(|process| fs::read_link(process.join("cwd")).is_ok_and(|cwd| cwd == folder)).collect()
+    all.filter(|process| fs::read_link(process.join("cwd")).is_ok_and(|cwd| cwd.starts_with(folder))).collect()
 }

@@ -28,8 +28,8 @@ impl Source {
         self.path.split('/').next().unwrap_or_default()
     }
 
-    /// Its code, each line in its place: no comments, ghost imports and contracts, and nothing in the quotes of a byte or a byte
-    /// string, so that every bracket is the code's own. A contract ends where the body starts, on a line of its own.
+    /// Its code, each line in its place: no comments, ghost imports and contracts, and nothing in the quotes of a byte, a character or
+    /// a string, so that every bracket is the code's own. A contract ends where the body starts, on a line of its own.
     pub fn code(&self) -> String {
         let mut code = String::new();
         let mut contract = false;
@@ -55,7 +55,9 @@ fn without_literals(line: &str) -> String {
         code += before;
         code += quote;
         // a lifetime has one quote
-        let size = if before.ends_with('b') { size_of_literal(behind, quote) } else { 0 };
+        let is_literal =
+            quote == "\"" || before.ends_with('b') || behind.starts_with('\\') || behind.chars().nth(1) == Some('\'');
+        let size = if is_literal { size_of_literal(behind, quote) } else { 0 };
         code += &behind[..size][size.saturating_sub(1)..];
         rest = &behind[size..];
     }
@@ -88,6 +90,35 @@ pub fn inside(text: &str) -> &str {
         }
     }
     text
+}
+
+/// The parts between the commas that stand in no bracket.
+pub fn parts(text: &str) -> Vec<&str> {
+    let (mut parts, mut open, mut start) = (Vec::new(), 0, 0);
+    for (at, c) in text.char_indices() {
+        match c {
+            '(' | '[' | '{' => open += 1,
+            ')' | ']' | '}' => open -= 1,
+            ',' if open == 0 => {
+                parts.push(text[start..at].trim());
+                start = at + 1;
+            }
+            _ => {}
+        }
+    }
+    parts.push(text[start..].trim());
+    parts.retain(|part| !part.is_empty());
+    parts
+}
+
+/// The words of a code, each with the code before and behind it.
+pub fn words(code: &str) -> impl Iterator<Item = (&str, &str, &str)> {
+    let is_letter = |c: char| c.is_alphanumeric() || c == '_';
+    let starts = code.char_indices().filter(move |(at, c)| is_letter(*c) && !code[..*at].ends_with(is_letter));
+    starts.map(move |(at, _)| {
+        let end = code[at..].find(|c| !is_letter(c)).map_or(code.len(), |size| at + size);
+        (&code[..at], &code[at..end], &code[end..])
+    })
 }
 
 /// The code before and behind each place of a mark.

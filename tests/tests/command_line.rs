@@ -1,10 +1,10 @@
 //! The options and the files of `./simulate` and `./join`, and where they may be called from.
 
 use simulator_tests::script::{here, run, Ended, Terminal};
-use simulator_tests::small::{repository, Folder};
+use simulator_tests::small::{made_in, repository, Folder};
 use std::fs;
 use std::os::unix::fs::symlink;
-use std::path::Path;
+use std::path::{Path, PathBuf};
 use std::process::Command;
 use std::sync::{Mutex, PoisonError};
 
@@ -57,7 +57,7 @@ impl Script {
     fn run_unbuilt(&self, folder: &Folder, mut command: Command, words: &[&str]) -> Ended {
         command.args(words).current_dir(folder.path(""));
         let ended = run(command, "(show)\n");
-        assert!(!folder.path("target").exists(), "{}: something is built: {ended:?}", self.name);
+        assert_eq!(made_in(folder), Vec::<PathBuf>::new(), "{}: something is built: {ended:?}", self.name);
         ended
     }
 

@@ -123,7 +123,9 @@ fn goes_on_where_it_was_stopped() {
     assert_eq!(processes_in(&root), Vec::<PathBuf>::new());
     terminal.press("\n");
     terminal.end();
-    let one = || fs::metadata(root.join("target/rlib/one.rlib")).and_then(|one| one.modified()).expect("one is proved");
+    let one = || {
+        fs::metadata(root.join("crates/one/out/rlib/one.rlib")).and_then(|one| one.modified()).expect("one is proved")
+    };
     let proved = one();
 
     let mut terminal = Terminal::start("stty cols 100; RT_JOBS=2 exec ./simulate", &root);
@@ -144,17 +146,51 @@ fn goes_on_where_it_was_stopped() {
     }
 }
 
+/// What is wrong with the crate `one`: its text, and what rt then says of it and of the crates above.
+type Wrong = (&'static str, &'static [&'static str]);
+
+/// One that cannot be read, and one that does not meet its contract.
+const WRONG: [Wrong; 2] = [
+    (
+        "pub fn one() -> usize { 7\n",
+        &["crates/one/src/lib.rt:1:", "rt: mend these first: no library was built, and no proof was checked"],
+    ),
+    (
+        "#![tactic(auto)]
+
+ghost use Rattle.std.specs.Prelude.{◌≡◌};
+
+pub fn one() -> usize
+    ensures { result ≡ 8 }
+{
+    7
+}
+",
+        &["== one\n", "src/lib.rt:6:", "fn one::one: not proved", "logic=not-proved", "one: failed (1)"],
+    ),
+];
+
 /// An error in a crate: all that rt says of it is shown, and nothing is answered.
 #[test]
 fn shows_what_is_wrong_with_a_crate() {
     for script in [SIMULATE, JOIN] {
-        let folder = repository();
-        folder.write("crates/one/src/lib.rt", "pub fn one() -> usize { 7\n");
-        let ended = run(script.command(&folder), "calls\n");
-        assert_eq!((ended.status, &ended.answers[..]), (Some(1), ""), "{}", ended.messages);
-        let not_proved = format!("rt: {} NOT PROVED", script.name);
-        for said in ["crates/one/src/lib.rt:1:", "rt: one NOT PROVED", &not_proved, "rt: FAILED: one"] {
-            assert!(ended.messages.contains(said), "{said} is not in {}", ended.messages);
+        for (text, said) in WRONG {
+            let folder = repository();
+            folder.write("crates/one/src/lib.rt", text);
+            let ended = run(script.command(&folder), "calls\n");
+            assert_eq!((ended.status, &ended.answers[..]), (Some(1), ""), "{}", ended.messages);
+            let name = script.name;
+            let not_built = format!("{name}: not proved, so not built\n");
+            assert!(ended.messages.ends_with(&not_built), "{not_built} does not end {}", ended.messages);
+            for said in said {
+                assert!(ended.messages.contains(said), "{said} is not in {}", ended.messages);
+            }
+            if ended.messages.contains("one: failed") {
+                let not_run = format!("{name}: not run, since one failed");
+                assert!(ended.messages.contains(&not_run), "{not_run} is not in {}", ended.messages);
+            }
+            let made = folder.path("target").exists() || folder.path(&format!("crates/{name}/out/{name}")).exists();
+            assert!(!made, "something is built: {}", ended.messages);
         }
     }
 }

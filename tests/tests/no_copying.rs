@@ -1,10 +1,10 @@
 //! #105: a line is written straight into the caller's slice, with no buffer of bytes of the simulator's own between. The source is
-//! searched for one. The language has no heap and no global that changes, so a buffer is an array, and bytes come into it, or into
-//! a slice, by a store, by a lend or by a call of the toolchain's libraries. Each of those that the source has is named below as
-//! what it is; any other is found.
+//! searched for one. No global changes, so a buffer is an array, or a value of a type that the toolchain's libraries have, as `Vec`, and
+//! bytes come into it, or into a slice, by a store, by a lend or by what those libraries have: a path, a type, a method or a macro that
+//! the source does not declare. Each of those that the source has is named below as what it is; any other is found.
 
 use simulator_tests::script::here;
-use simulator_tests::source::{inside, is_named, places, sources, Source};
+use simulator_tests::source::{inside, is_named, parts, places, sources, words, Source};
 use std::collections::BTreeSet;
 use std::fs;
 
@@ -20,6 +20,10 @@ const EXPORTS: [&str; 3] = ["pub use ", "pub mod put;", "pub fn put_byte("];
 /// What an array holds, where that shows that it holds no bytes.
 const HELD: [&str; 10] = ["bool", "false", "u16", "u64", "0u64", "Node", "Part", "Row", "Session", "Slot"];
 
+/// What the language itself has that holds and copies no bytes: words, and methods.
+const PLAIN: [&str; 9] = ["Clone", "Copy", "Drop", "Err", "None", "Ok", "Option", "Self", "Some"];
+const PLAIN_METHODS: [&str; 2] = ["len", "ok"];
+
 /// What the source has of these, by crate.
 const NAMED: &[(&str, &str)] = &[
     // the one place that writes a byte of a call's answer
@@ -32,14 +36,15 @@ const NAMED: &[(&str, &str)] = &[
     ("simulate", "&mut input"),
     ("simulate", "&mut out"),
     ("simulate", "&mut input[at..]"),
-    ("simulate", "libc::STDIN_FILENO"),
-    ("simulate", "libc::STDOUT_FILENO"),
-    ("simulate", "libc::read"),
-    ("simulate", "io::count"),
-    ("simulate", "io::write_all"),
+    ("simulate", "std::io::Print"),
+    ("simulate", "std::io::Read"),
+    ("simulate", "HostRuntime"),
+    ("simulate", "u64::MAX"),
+    ("simulate", ".stdin"),
+    ("simulate", ".read"),
+    ("simulate", ".write_all"),
     // a join's lines: parts of the two files, copied to the caller's slice
-    ("joins", "bytes::copy"),
-    ("joins", "&mut out[end..]"),
+    ("joins", ".copy_from_slice"),
     // what a fresh state answers to a file, and the text of its network: compared with the file, and written nowhere
     ("joins", "[0u8; 70976]"),
     ("joins", "&mut scratch"),
@@ -52,15 +57,22 @@ const NAMED: &[(&str, &str)] = &[
     ("join", "&mut b"),
     ("join", "&mut out"),
     ("join", "&mut buffer[size..]"),
+    ("join", "[0u8; 4096]"),
     ("join", "&mut path"),
-    ("join", "io::buffer"),
-    ("join", "io::count"),
-    ("join", "io::write_all"),
-    ("join", "libc::STDOUT_FILENO"),
-    ("join", "libc::close"),
-    ("join", "libc::read"),
-    ("join", "os::arg"),
-    ("join", "os::open_read"),
+    ("join", "&mut file"),
+    ("join", "&mut File"),
+    ("join", "std::env::Env"),
+    ("join", "std::fs::File"),
+    ("join", "std::io::Print"),
+    ("join", "std::io::Read"),
+    ("join", "std::io::Result"),
+    ("join", "HostRuntime"),
+    ("join", "File"),
+    ("join", "File::open"),
+    ("join", "str::from_utf8"),
+    ("join", ".arg"),
+    ("join", ".read"),
+    ("join", ".write_all"),
     // the next hops: numbers of nodes, whose digits a report writes
     ("calculus", "[u8; 1056]"),
     ("reports", "[u8; 1056]"),
@@ -90,7 +102,7 @@ fn arrays(code: &str) -> Vec<Found> {
     for (before, behind) in places(code, "[") {
         let array = inside(behind);
         let held = array.split([';', ',']).next().unwrap_or_default();
-        let indexes = before.ends_with(|c| is_named(c) || ")]\"#".contains(c));
+        let indexes = before.ends_with(|c| is_named(c) || ")]\"#".contains(c)) || before.ends_with("#!");
         // a slice of bytes is lent
         if !indexes && array != "u8" && !HELD.contains(&held) {
             found.push((before.len(), format!("[{array}]")));
@@ -127,11 +139,72 @@ fn lends(code: &str, mark: &str) -> Vec<Found> {
     found
 }
 
-/// What is used of a library of the toolchain, which may make or fill a buffer.
-fn library(code: &str, library: &str) -> Vec<Found> {
-    let mark = format!("{library}::");
-    let used = places(code, &mark).filter(|(before, _)| !before.ends_with(|c| is_named(c) || c == ':'));
-    used.map(|(before, behind)| (before.len(), format!("{mark}{}", name_at(behind)))).collect()
+/// What the source declares: its crates, and their modules and types, with the variants of these; and its methods.
+struct Declared {
+    names: BTreeSet<String>,
+    methods: BTreeSet<String>,
+}
+
+impl Declared {
+    fn of(codes: &[&str]) -> Self {
+        let text = fs::read_to_string(here("crates.txt")).expect("crates.txt is read");
+        let crates = text.lines().filter_map(|line| line.split_once(':')).map(|(name, _)| name.to_string());
+        let mut names: BTreeSet<_> = crates.chain(["crate", "self", "super"].map(str::to_string)).collect();
+        let mut methods: BTreeSet<_> = PLAIN_METHODS.map(str::to_string).into();
+        for (before, word, behind) in codes.iter().flat_map(|code| words(code)) {
+            let declares = ["mod ", "struct ", "enum ", "const "].iter().any(|mark| before.ends_with(mark));
+            if declares && !before.ends_with("*const ") {
+                names.insert(word.to_string());
+            }
+            if before.ends_with("enum ") {
+                let variants = parts(inside(behind.split_once('{').unwrap_or_default().1));
+                names.extend(variants.iter().map(|variant| name_at(variant).to_string()));
+            }
+            let parameters = inside(behind.split_once('(').unwrap_or_default().1);
+            if before.ends_with("fn ") && parts(parameters).first().is_some_and(|first| first.ends_with("self")) {
+                methods.insert(word.to_string());
+            }
+        }
+        Declared { names, methods }
+    }
+}
+
+/// Each path that starts at this one; behind it a list in braces may go on.
+fn paths(start: &str) -> Vec<String> {
+    let path = &start[..start.find(|c| !is_named(c) && c != ':').unwrap_or(start.len())];
+    match start[path.len()..].strip_prefix('{') {
+        Some(list) => parts(inside(list)).into_iter().flat_map(paths).map(|part| format!("{path}{part}")).collect(),
+        None => vec![path.to_string()],
+    }
+}
+
+/// What is used that the source does not declare, which may make or fill a buffer: a path, a type, a method or a macro. A type is
+/// found once.
+fn library(code: &str, declared: &Declared) -> Vec<Found> {
+    let mut found = Vec::new();
+    let mut types = BTreeSet::new();
+    for (before, word, behind) in words(code) {
+        let is_own = declared.names.contains(word);
+        let item = before.rsplit([';', ']']).next().unwrap_or_default().trim_start();
+        let is_imported = item.starts_with("use ") || item.starts_with("pub use ");
+        let calls = behind.starts_with(['(', ':']);
+        if before.ends_with("::") || word.starts_with(char::is_numeric) {
+            continue;
+        } else if before.ends_with('.') && !before.ends_with("..") {
+            if calls && !declared.methods.contains(word) {
+                found.push((before.len(), format!(".{word}")));
+            }
+        } else if behind.starts_with('!') && behind[1..].trim_start().starts_with(['(', '[', '{']) {
+            found.push((before.len(), format!("{word}!")));
+        } else if before.ends_with("use ") || behind.starts_with("::") && !is_imported {
+            if !is_own {
+                found.extend(paths(&code[before.len()..]).into_iter().map(|path| (before.len(), path)));
+            }
+        } else if word.starts_with(char::is_uppercase) && !is_own && !is_imported && !PLAIN.contains(&word) {
+            found.extend(types.insert(word).then(|| (before.len(), word.to_string())));
+        }
+    }
+    found
 }
 
 /// The values behind references, as the array of a byte string.
@@ -146,7 +219,8 @@ fn lent_to_read(code: &str) -> Vec<Found> {
     for (before, behind) in places(code, "fn ") {
         let is_public = before.rsplit('\n').next().is_some_and(|line| line.starts_with("pub "));
         let parameters = inside(behind.split_once('(').unwrap_or_default().1);
-        let is_lent = |parameter: &str| parameter.ends_with("[u8]") && !parameter.contains("mut ");
+        let is_bytes = |parameter: &str| parameter.ends_with("[u8]") || parameter.ends_with("str");
+        let is_lent = |parameter: &str| is_bytes(parameter) && !parameter.contains("mut ");
         if is_public && parameters.split(',').any(is_lent) {
             found.push((before.len(), format!("fn {}", name_at(behind))));
         }
@@ -158,21 +232,13 @@ fn name_at(text: &str) -> &str {
     &text[..text.find(|c| !is_named(c)).unwrap_or(text.len())]
 }
 
-/// The libraries that crates.txt names beside the crates here, and `std`, which it does not name.
-fn libraries() -> BTreeSet<String> {
-    let text = fs::read_to_string(here("crates.txt")).expect("crates.txt is read");
-    let lines: Vec<_> = text.lines().filter_map(|line| line.split_once(':')).collect();
-    let used = lines.iter().flat_map(|(_, used)| used.split_whitespace()).chain(["std"]);
-    used.filter(|used| !lines.iter().any(|(name, _)| name == used)).map(str::to_string).collect()
-}
-
 /// What is found in a file; of stores and lends those where its crate has bytes to write.
-fn found_in(source: &Source, code: &str, libraries: &BTreeSet<String>, has_bytes: bool) -> Vec<Found> {
-    let mut found = [arrays(code), dereferences(code)].concat();
-    found.extend(libraries.iter().flat_map(|name| library(code, name)));
+fn found_in(source: &Source, code: &str, declared: &Declared, has_bytes: bool) -> Vec<Found> {
+    let mut found = [arrays(code), dereferences(code), library(code, declared)].concat();
     if has_bytes {
         found.extend(stores(code));
         found.extend(lends(code, "&mut "));
+        found.extend(lends(code, "ref mut "));
     }
     if WRITERS.contains(&source.crate_name()) {
         found.extend(lends(code, "&"));
@@ -189,12 +255,12 @@ fn found_in(source: &Source, code: &str, libraries: &BTreeSet<String>, has_bytes
 /// What is found and not named, then what is named and not found.
 fn search(sources: &[Source]) -> (Vec<String>, Vec<(&'static str, &'static str)>) {
     let files: Vec<_> = sources.iter().map(|source| (source, source.code())).collect();
-    let libraries = libraries();
+    let declared = Declared::of(&files.iter().map(|(_, code)| &code[..]).collect::<Vec<_>>());
     let (mut found, mut named) = (Vec::new(), NAMED.to_vec());
     for (source, code) in &files {
         let has_bytes =
             files.iter().any(|(other, code)| other.crate_name() == source.crate_name() && code.contains("mut [u8]"));
-        for (at, text) in found_in(source, code, &libraries, has_bytes) {
+        for (at, text) in found_in(source, code, &declared, has_bytes) {
             match named.iter().position(|name| *name == (source.crate_name(), &text[..])) {
                 Some(place) => drop(named.remove(place)),
                 None => found.push(format!("{}:{}: {text}", source.path, code[..at].matches('\n').count() + 1)),
@@ -227,10 +293,21 @@ fn a_buffer_put_in_is_found() {
         ("answers/src/put.rt", "    put_byte(out, next, last)", "let line = [last];", "[last]"),
         ("answers/src/room.rt", "    if size < room", "let mut word = *b\"(made\";", "*b"),
         ("reports/src/network.rt", "    if 0 < hop {", "let mut routes: [u8; 1056] = [0; 1056];", "[0; 1056]"),
-        ("simulate/src/main.rt", "    run(&mut input", "let mut out = [0u8; 131072];", "[0u8; 131072]"),
+        ("simulate/src/main.rt", "    run(&rt, &mut input", "let mut out = [0u8; 131072];", "[0u8; 131072]"),
         ("joins/src/merge.rt", "        end += size;", "let mut lines = [0u8; 65536];", "[0u8; 65536]"),
         // an array of a library
         ("simulator/src/call.rt", "    let reading = read(line);", "let mut line = io::buffer();", "io::buffer"),
+        (
+            "simulator/src/call.rt",
+            "use calculus::state::State;",
+            "use std::{env, io::{Print, Write}};",
+            "std::io::Write",
+        ),
+        // bytes on the heap, and a string
+        ("pieces/src/lib.rt", "    let kept = keep", "let mut line: Vec<u8> = Default::default();", "Vec"),
+        ("simulator/src/call.rt", "    let reading = read(line);", "let line = line.to_vec();", ".to_vec"),
+        ("reports/src/show.rt", "    write_end(out, next)", "let line = format!(in a; \"(end)\");", "format!"),
+        ("joins/src/merge.rt", "        end += size;", "let line = str::from_utf8(line);", "str::from_utf8"),
         // a field
         ("calculus/src/answer.rt", "    pub spi: Spi,", "pub line: [u8; 32],", "[u8; 32]"),
         ("simulator/src/calls.rt", "    pub read: usize,", "pub lines: [Line; 4],", "[Line; 4]"),
@@ -238,6 +315,8 @@ fn a_buffer_put_in_is_found() {
         ("simulator/src/call.rt", "    let reading = read(line);", "out[0] = line[0];", "out[0] ="),
         ("reports/src/show.rt", "    write_end(out, next)", "out[next] |= out[at];", "out[next] ="),
         ("joins/src/merge.rt", "        end += size;", "out[end] = line[0];", "out[end] ="),
+        ("pieces/src/lib.rt", "    let kept = keep", "out[..4].copy_from_slice(b\"(ok)\");", ".copy_from_slice"),
+        ("reports/src/show.rt", "    write_end(out, next)", "for byte in out.iter_mut() {}", ".iter_mut"),
         ("pieces/src/lib.rt", "    let kept = keep", "keep(&mut out[from..], 4, to);", "&mut out[from..]"),
         ("answers/src/put.rt", "    put_word(out, q, b\")\\n\")", "put_word(out, q, &out[..at]);", "&out[..at]"),
         // a way for others to have bytes copied
