@@ -166,7 +166,7 @@ pub fn one() -> usize
     7
 }
 ",
-        &["== one\n", "src/lib.rt:6:", "fn one::one: not proved", "logic=not-proved", "one: failed (1)"],
+        &["== one\n", "src/lib.rt:5:1:", "fn one::one: no proof", "logic=not-proved", "one: failed (1)"],
     ),
 ];
 
