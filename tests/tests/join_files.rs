@@ -5,7 +5,7 @@ use simulator_tests::compare::{check_join, difference};
 use simulator_tests::networks::{fullest, fullest_in_halves, text};
 use simulator_tests::program::{self, command_of, write_in_pieces, Running};
 use simulator_tests::random::{setting, Random};
-use simulator_tests::script::here;
+use simulator_tests::script::{self, here};
 use simulator_tests::small::Folder;
 use std::ffi::OsStr;
 use std::fs::{self, File};
@@ -51,15 +51,21 @@ fn files_that_cannot_be_read() {
     }
 }
 
-/// Of the most bytes that a name may have, and with a byte that is in no text.
+/// Of the most bytes that a name may have, and with a byte that is in no text: a file of such a name `./join` opens for the
+/// program, whose own library opens none.
 #[test]
 fn names_of_any_kind() {
     let folder = with_office();
     let office = folder.path("office.net");
+    let text = fs::read(&office).expect("the example is read");
+    check_join("a file", [&office, &long_name(&office, 4095)], &text);
     let no_text = folder.path("").join(OsStr::from_bytes(b"\xff"));
     fs::copy(&office, &no_text).expect("the file is copied");
-    for name in [long_name(&office, 4095), no_text] {
-        check_join("a file", [&office, &name], &fs::read(&office).expect("the example is read"));
+    for names in [[&office, &no_text], [&no_text, &office], [&no_text, &no_text]] {
+        let mut command = Command::new(here("join"));
+        command.args(names);
+        let ended = script::run(command, "");
+        assert_eq!((ended.status, ended.answers.as_bytes(), &ended.messages[..]), (Some(0), &text[..], ""), "{names:?}");
     }
 }
 
