@@ -4,7 +4,7 @@
 usage: python3 tools/respell.py [--list]     at the top, once, on what port.py left; --list only prints the names, old and new
 
 It goes over specs/*.antt and proofs/*.antt for what they define (a definition, a lemma, a field, a constructor), and over every
-.antt and .rt file of crates/ for where it is named. Names of src/, of types and of what the check makes stay, and so do strings.
+.antt and .rt file of crates/ for where it is named. Names of src/, of types and of what the check makes stay, and so do strings and comments.
 """
 import glob
 import re
@@ -19,7 +19,8 @@ TURNED = {
     "crates/model/proofs/Texts.antt": {"one_more": "one_more_lem"},
     "crates/simulator/proofs/Batches.antt": {"one_more": "one_more_lem"},
 }
-TOKEN = re.compile(r"\"(?:\\.|[^\"\\\n])*\"|[^\s(){}\[\].,;\"⟨⟩«»`]+")
+# A string, a comment, or a word.
+TOKEN = re.compile(r"\"(?:\\.|[^\"\\\n])*\"|(?:(?<=\s)|^)(?:--|//)[^\n]*|[^\s(){}\[\].,;\"⟨⟩«»`]+", re.M)
 
 
 def files():
@@ -27,17 +28,11 @@ def files():
 
 
 def defined(path):
-    """The names that a file of definitions or lemmas gives: at the margin, and in a record or data below it."""
-    inside = False
+    """The names that a file of definitions or lemmas gives, at the margin and inside: each stands before a colon at the head of a line."""
     for line in open(path, encoding="utf-8"):
-        if line.strip() and not line.startswith((" ", "--")):
-            inside = bool(re.match(r"(pub )?(record|data)\b", line))
-        got = re.match(r"(?:(?:abbrev|unfoldable|ruleset) )?(?:pub )?(?:(?:abbrev|unfoldable|data|record|ruleset) )?([^\s(){}:,.\[\]]+)(?: [({][^:]*)? :(?: |$)", line)
-        if got:
+        got = re.match(r"\s*(?:(?:abbrev|unfoldable|data|record|ruleset|pub) )*([^\s(){}:,.\[\]]+)(?: [({][^:]*)? :(?: |$)", line)
+        if got and not line.lstrip().startswith(("--", "use ")):
             yield got.group(1)
-        field = re.match(r"  (?:pub )?([^\s(){}:,.\[\]]+) :(?: |$)" if inside else r"  pub ([^\s(){}:,.\[\]]+) :(?: |$)", line)
-        if field:
-            yield field.group(1)
 
 
 def snake(name):
@@ -51,14 +46,12 @@ def wanted(name):
 
 
 def renames():
-    names = set()
-    for path in sorted(glob.glob("crates/*/specs/*.antt") + glob.glob("crates/*/proofs/*.antt")):
-        names.update(n for n in defined(path) if wanted(n))
+    every = {n for path in glob.glob("crates/*/specs/*.antt") + glob.glob("crates/*/proofs/*.antt") for n in defined(path)}
     made = set()
     for path in glob.glob("crates/*/proofs/*/**/*.antt", recursive=True):
         made.update(re.findall(r"goal\.([^\s(){}\[\].,;]+)", open(path, encoding="utf-8").read()))
-    names -= made
-    return {n: OTHER.get(n, snake(n) + "_lem" * ("-" in n and any(snake(o) == snake(n) for o in names - {n}))) for n in names}
+    falls = lambda n: "-" in n and any(snake(o) == snake(n) for o in every - {n})
+    return {n: OTHER.get(n, snake(n) + "_lem" * falls(n)) for n in every - made if wanted(n)}
 
 
 def main(argv):

@@ -1,4 +1,4 @@
--- The definitions on document 01's examples and their near_misses. Assumes nothing.
+-- The definitions on document 01's examples and their near-misses. Assumes nothing.
 use mathlib.Core.Path.{◌≡◌, refl}
 use mathlib.Core.List.{List, [], ◌∷◌, map}
 use Prim.Native.String.{String}

@@ -24,9 +24,9 @@ Worded w n form = (ns : List ℕ) → (numbers (form ns) ≡ firsts n ns) × (te
 
 module _ (most room : ℕ) (f : Form) (l : List ℕ) where
   -- behind w stand the numbers of a form
-  numbers-sound : (w : List ℕ) (n : ℕ) (form : List ℕ → Form) (y : Option Form) → n ≤ 3 → Worded w n form → (y ≡ some f → Says most l f)
+  numbers_sound : (w : List ℕ) (n : ℕ) (form : List ℕ → Form) (y : Option Form) → n ≤ 3 → Worded w n form → (y ≡ some f → Says most l f)
       → cond (starts w l) (form_with form (fields most n (drop (length w) l))) y ≡ some f → Says most l f
-  numbers-sound w n form y h worded = starts_way (λ m. Says most m f) w l _ y (go (fields most n (drop (length w) l)) refl)
+  numbers_sound w n form y h worded = starts_way (λ m. Says most m f) w l _ y (go (fields most n (drop (length w) l)) refl)
     where
       go : (o : Option (List ℕ)) → fields most n (drop (length w) l) ≡ o → form_with form o ≡ some f → Says most (w ++ drop (length w) l) f
       go none p = nothing
@@ -36,18 +36,18 @@ module _ (most room : ℕ) (f : Form) (l : List ℕ) where
           let same = ap (λ (r : List ℕ). w ++ r) (x.same ∙ ap list_text (sym q)) ∙ sym (worded ns).1 in
           some_same (Says most _) (record { same = same; digits = rw q x.digits })
 
-  form-sound : form_of most room l ≡ some f → Says most l f
+  form_sound : form_of most room l ≡ some f → Says most l f
   unfolding form_of plain_form text
-  form-sound =
+  form_sound =
       starts_way (λ m. Says most m f) (bytes "(node ") l _ _ (node_sound most room f (drop 6 l))
-      (numbers-sound (bytes "(route") 3 route_with _ (omega arith) (λ ns. (refl, refl))
-      (numbers-sound (bytes "(open") 3 open_with _ (omega arith) (λ ns. (refl, refl))
-      (numbers-sound (bytes "(step") 2 step_with _ (omega arith) (λ ns. (refl, refl))
-      (numbers-sound (bytes "(send") 3 send_with _ (omega arith) (λ ns. (refl, refl))
-      (numbers-sound (bytes "(close") 1 close_with _ (omega arith) (λ ns. (refl, refl))
-      (numbers-sound (bytes "(show") 0 show_with _ (omega arith) (λ ns. (refl, refl))
-      (numbers-sound (bytes "(net") 0 net_with _ (omega arith) (λ ns. (refl, refl))
-      (numbers-sound (bytes "(drop") 2 take_down_with _ (omega arith) (λ ns. (refl, refl)) nothing))))))))
+      (numbers_sound (bytes "(route") 3 route_with _ (omega arith) (λ ns. (refl, refl))
+      (numbers_sound (bytes "(open") 3 open_with _ (omega arith) (λ ns. (refl, refl))
+      (numbers_sound (bytes "(step") 2 step_with _ (omega arith) (λ ns. (refl, refl))
+      (numbers_sound (bytes "(send") 3 send_with _ (omega arith) (λ ns. (refl, refl))
+      (numbers_sound (bytes "(close") 1 close_with _ (omega arith) (λ ns. (refl, refl))
+      (numbers_sound (bytes "(show") 0 show_with _ (omega arith) (λ ns. (refl, refl))
+      (numbers_sound (bytes "(net") 0 net_with _ (omega arith) (λ ns. (refl, refl))
+      (numbers_sound (bytes "(drop") 2 take_down_with _ (omega arith) (λ ns. (refl, refl)) nothing))))))))
 
 -- ---- what is written is read
 
@@ -84,7 +84,7 @@ read_sound : (l : List ℕ) (f : Form) → read l ≡ some f → IsForm l f
 unfolding read
 read_sound l f =
     cond_way (leb (length l) 400) _ none
-    (λ q e. let x = form-sound 10 200 f l e in
+    (λ q e. let x = form_sound 10 200 f l e in
     record { written = x.same; short = leb-true (length l) 400 q; digits = x.digits (omega arith) })
     (λ q. nothing)
 

@@ -55,33 +55,33 @@ firsts_take n v h = ap (take n) (firsts_all v 3 h (omega arith))
 
 module _ {l before after : List ℕ} {r : listRead.ListRead} (f : Filled l before r after) where
   -- what is known of the list, by what was read
-  filled-list : {size : ℕ} {s : listRead.ListRead} → length before ≡ size → r ≡ s → list 10 size 0 l ≡ list_in after s
-  filled-list h e = rw (← h, ← e) (sym f.same)
+  filled_list : {size : ℕ} {s : listRead.ListRead} → length before ≡ size → r ≡ s → list 10 size 0 l ≡ list_in after s
+  filled_list h e = rw (← h, ← e) (sym f.same)
 
   module _ {count used : ℕ} (e : r ≡ listRead.TheVariants.Numbers count used) where
-    pub filled-few : count ≤ length before
-    filled-few = rw e at f.few
+    pub filled_few : count ≤ length before
+    filled_few = rw e at f.few
 
-    pub fields-found : (n : ℕ) {ok : Bool} → length before ≡ 3 → length after ≡ 3 → ok ≡ (eqb count n && eqb used (length l))
+    pub fields_found : (n : ℕ) {ok : Bool} → length before ≡ 3 → length after ≡ 3 → ok ≡ (eqb count n && eqb used (length l))
         → fields_in n (record { ok = ok; values = after }) ≡ fields 10 n l
     unfolding fields
-    fields-found n {ok} h g q =
-        let w : length (take count after) ≡ count = length-take-le count after (rw (h, ← g) at filled-few) in
-        rw (filled-list h e, q, w, firsts_take n after g) (go (way (eqb count n)) (eqb used (length l)))
+    fields_found n {ok} h g q =
+        let w : length (take count after) ≡ count = length-take-le count after (rw (h, ← g) at filled_few) in
+        rw (filled_list h e, q, w, firsts_take n after g) (go (way (eqb count n)) (eqb used (length l)))
       where
         go : Way (eqb count n) → (b : Bool) → cond (eqb count n && b) (some (take n after)) none ≡ cond (eqb count n && b) (some (take count after)) none
         go (is f) b = rw (eqb-true count n f)
         go (isnt f) b = rw f
 
-    pub gathered-list : {t : Tally} → length before ≡ 200 → t ≡ tallied fresh (take count after) → record { ok = true; tally = t; used = used } ≡ gathered (list 10 200 0 l)
-    gathered-list h q = rw (filled-list h e, q)
+    pub gathered_list : {t : Tally} → length before ≡ 200 → t ≡ tallied fresh (take count after) → record { ok = true; tally = t; used = used } ≡ gathered (list 10 200 0 l)
+    gathered_list h q = rw (filled_list h e, q)
 
   pub fields_broken : (n : ℕ) → length before ≡ 3 → r ≡ listRead.TheVariants.Broken → none ≡ fields 10 n l
   unfolding fields
-  fields_broken n h e = rw (filled-list h e)
+  fields_broken n h e = rw (filled_list h e)
 
   pub gathered_broken : {t : Tally} → length before ≡ 200 → r ≡ listRead.TheVariants.Broken → t ≡ fresh → record { ok = false; tally = t; used = 0 } ≡ gathered (list 10 200 0 l)
-  gathered_broken h e q = rw (filled-list h e, q)
+  gathered_broken h e q = rw (filled_list h e, q)
 
 -- ---- a form of numbers
 

@@ -37,9 +37,9 @@ record Items (most k : ℕ) (l ns : List ℕ) (j : ℕ) : Type 0 where
   pub digits : 0 < most → Digits most ns
 
 module _ (most : ℕ) where
-  items-none : (k : ℕ) (l ns : List ℕ) (j : ℕ) → starts (bytes ")") l ≡ true → listed [] (k + 1) ≡ listed ns j → Items most k l ns j
+  items_none : (k : ℕ) (l ns : List ℕ) (j : ℕ) → starts (bytes ")") l ≡ true → listed [] (k + 1) ≡ listed ns j → Items most k l ns j
   unfolding list_text
-  items-none k l ns j s e =
+  items_none k l ns j s e =
       let en : [] ≡ ns = cc in
       let ej : k + 1 ≡ j = cc in
       rw (← en, ← ej) (record { rest = drop 1 l; same = starts_sound (bytes ")") l s; place = refl; digits = λ q. tt })
@@ -57,29 +57,29 @@ module _ (most : ℕ) where
         digits = λ q. (rw (← x.width) at (x.digits q), y.digits q);
       }
 
-  list-sound-at : (room k : ℕ) (l ns : List ℕ) (j : ℕ) → list most room k l ≡ listed ns j → Items most k l ns j
+  list_sound_at : (room k : ℕ) (l ns : List ℕ) (j : ℕ) → list most room k l ≡ listed ns j → Items most k l ns j
   unfolding list
-  list-sound-at zero k l ns j e = cond_way (starts (bytes ")") l) _ _ (items-none k l ns j) (λ s. unlisted) e
-  list-sound-at (suc room) k l ns j e =
-      cond_way (starts (bytes ")") l) _ _ (items-none k l ns j)
+  list_sound_at zero k l ns j e = cond_way (starts (bytes ")") l) _ _ (items_none k l ns j) (λ s. unlisted) e
+  list_sound_at (suc room) k l ns j e =
+      cond_way (starts (bytes ")") l) _ _ (items_none k l ns j)
       (λ t. cond_way (starts (bytes " ") l) _ _
       (λ s. number_way (list_from (list most room) (k + 1) (drop 1 l)) (number most (drop 1 l)) unlisted
       (λ n i f. list_way (push n) (list most room (k + 1 + i) (drop i (drop 1 l))) unlisted
       (λ ms j' g. items_more k i n l ns ms j j' s (number_sound most (drop 1 l) n i f)
-      (list-sound-at room (k + 1 + i) (drop i (drop 1 l)) ms j' g))))
+      (list_sound_at room (k + 1 + i) (drop i (drop 1 l)) ms j' g))))
       (λ s. unlisted))
       e
 
 pub list_inside : (most room : ℕ) (l ns : List ℕ) (j : ℕ) → list most room 0 l ≡ listed ns j → j ≤ length l
 list_inside most room l ns j e =
-    let x = list-sound-at most room 0 l ns j e in
+    let x = list_sound_at most room 0 l ns j e in
     omega (arith, x.place, front_inside (list_text ns) l x.rest x.same)
 
 -- a list at the front of l, and what follows it
 pub list_sound : (most room : ℕ) (l ns : List ℕ) (j : ℕ) → list most room 0 l ≡ listed ns j
     → (l ≡ list_text ns ++ drop j l) × (0 < most → Digits most ns)
 list_sound most room l ns j e =
-    let x = list-sound-at most room 0 l ns j e in
+    let x = list_sound_at most room 0 l ns j e in
     let d : drop j l ≡ x.rest = ap (drop j) x.same ∙ drop_at (list_text ns) x.rest j (omega (arith, x.place)) in
     (rw d x.same, x.digits)
 
@@ -101,7 +101,7 @@ pub fields_sound : (most n : ℕ) (l ns : List ℕ) → fields most n l ≡ some
 unfolding fields
 fields_sound most n l ns =
     list_way (whole_of n l) (list most 3 0 l) nothing
-    (λ ms j p. let x = list-sound-at most 3 0 l ms j p in
+    (λ ms j p. let x = list_sound_at most 3 0 l ms j p in
     cond_way (eqb (length ms) n && eqb j (length l)) (some ms) none
     (λ q. let h = both (eqb (length ms) n) (eqb j (length l)) q in
     some_same (Whole most n l)

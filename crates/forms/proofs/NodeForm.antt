@@ -28,10 +28,10 @@ abbrev node_text : ℕ → Kind → List ℕ → List ℕ
 node_text a k l = bytes "(node " ++ (decimal a ++ (kind_text k ++ (bytes " (has" ++ l)))
 
 module _ (most room : ℕ) (f : Form) where
-  needs-sound : (a : ℕ) (k : Kind) (has l : List ℕ) → (0 < most → Digits most (a ∷ has)) → needs_of a k has l (list most room 0 l) ≡ some f
+  needs_sound : (a : ℕ) (k : Kind) (has l : List ℕ) → (0 < most → Digits most (a ∷ has)) → needs_of a k has l (list most room 0 l) ≡ some f
       → Says most (node_text a k (list_text has ++ (bytes " (needs" ++ l))) f
   unfolding text
-  needs-sound a k has l d =
+  needs_sound a k has l d =
       list_way (needs_of a k has l) (list most room 0 l) nothing
       (λ needs j p. let x = list_sound most room l needs j p in
       cond_way (is_text (bytes ")") (drop j l)) _ none
@@ -41,28 +41,28 @@ module _ (most room : ℕ) (f : Form) where
       })
       (λ q. nothing))
 
-  has-sound : (a : ℕ) (k : Kind) (l : List ℕ) → (0 < most → length (decimal a) ≤ most) → has_at most room a k l ≡ some f
+  has_sound : (a : ℕ) (k : Kind) (l : List ℕ) → (0 < most → length (decimal a) ≤ most) → has_at most room a k l ≡ some f
       → Says most (node_text a k l) f
   unfolding has_at
-  has-sound a k l d =
+  has_sound a k l d =
       list_way (has_of most room a k l) (list most room 0 l) nothing
       (λ has j p e. let x = list_sound most room l has j p in
       rw x.0 (starts_way (λ m. Says most (node_text a k (list_text has ++ m)) f) (bytes " (needs") (drop j l) _ none
-      (needs-sound a k has (drop 7 (drop j l)) (λ h. (d h, x.1 h))) nothing e))
+      (needs_sound a k has (drop 7 (drop j l)) (λ h. (d h, x.1 h))) nothing e))
 
-  kind-sound : (a : ℕ) (l : List ℕ) → (0 < most → length (decimal a) ≤ most) → kind_at most room a l ≡ some f
+  kind_sound : (a : ℕ) (l : List ℕ) → (0 < most → length (decimal a) ≤ most) → kind_at most room a l ≡ some f
       → Says most (bytes "(node " ++ (decimal a ++ l)) f
   unfolding kind_at
-  kind-sound a l d =
+  kind_sound a l d =
       let P : List ℕ → Type 0 = λ m. Says most (bytes "(node " ++ (decimal a ++ m)) f in
-      starts_way P (bytes " host (has") l _ _ (has-sound a Host (drop 10 l) d)
-      (starts_way P (bytes " gate (has") l _ none (has-sound a Gateway (drop 10 l) d) nothing)
+      starts_way P (bytes " host (has") l _ _ (has_sound a Host (drop 10 l) d)
+      (starts_way P (bytes " gate (has") l _ none (has_sound a Gateway (drop 10 l) d) nothing)
 
   pub node_sound : (l : List ℕ) → node_at most room l ≡ some f → Says most (bytes "(node " ++ l) f
   unfolding node_at
   node_sound l =
       number_way (node_of most room l) (number most l) nothing
-      (λ a j p e. let x = number_sound most l a j p in rw x.same (kind-sound a (drop j l) (rw (← x.width) at x.digits) e))
+      (λ a j p e. let x = number_sound most l a j p in rw x.same (kind_sound a (drop j l) (rw (← x.width) at x.digits) e))
 
 -- ---- what is written is read
 
@@ -77,10 +77,10 @@ kind_complete most room a Host r = refl
 kind_complete most room a Gateway r = refl
 
 module _ (most room a : ℕ) (k : Kind) (has needs : List ℕ) where
-  has-complete : length has ≤ room → length needs ≤ room → Digits most has → Digits most needs
+  has_complete : length has ≤ room → length needs ≤ room → Digits most has → Digits most needs
       → has_at most room a k (list_text has ++ (bytes " (needs" ++ (list_text needs ++ bytes ")"))) ≡ some (node a k has needs)
   unfolding has_at starts
-  has-complete h i d e =
+  has_complete h i d e =
       rw (
         list_complete most room has (bytes " (needs" ++ (list_text needs ++ bytes ")")) h d,
         drop-append_seam,
@@ -97,4 +97,4 @@ module _ (most room a : ℕ) (k : Kind) (has needs : List ℕ) where
       let e = digits_split most has needs d.1 in
       let w = simp length-append at h in
       rw (n, drop-append_seam, kind_complete most room a k r)
-      (has-complete (omega (arith, list_count has)) (omega (arith, list_count needs)) e.0 e.1)
+      (has_complete (omega (arith, list_count has)) (omega (arith, list_count needs)) e.0 e.1)

@@ -44,31 +44,31 @@ pub record Numeral (most : ℕ) (l r : List ℕ) (n j : ℕ) : Type 0 where
   pub digits : 0 < most → j ≤ most
 
 module _ (most : ℕ) (l : List ℕ) where
-  numeral-more : (r : List ℕ) (v k c : ℕ) → 0 < v → is_digit c ≡ true → k < most → Numeral most l (c ∷ r) v k
+  numeral_more : (r : List ℕ) (v k c : ℕ) → 0 < v → is_digit c ≡ true → k < most → Numeral most l (c ∷ r) v k
       → Numeral most l r (v * 10 + (c - 48)) (k + 1)
-  numeral-more r v k c p e h x = record {
+  numeral_more r v k c p e h x = record {
     same = x.same ∙ rw (digit_more v c p e, append_assoc);
     width = rw (digit_more v c p e, length-append) (omega (arith, x.width));
     digits = λ q. omega arith;
   }
 
-  numeral-found : (r : List ℕ) (v k n j : ℕ) → Numeral most l r v k → Found v k ≡ Found n j → Numeral most l (drop j l) n j
-  numeral-found r v k n j x e =
+  numeral_found : (r : List ℕ) (v k n j : ℕ) → Numeral most l r v k → Found v k ≡ Found n j → Numeral most l (drop j l) n j
+  numeral_found r v k n j x e =
       let ev : v ≡ n = cc in
       let ek : k ≡ j = cc in
       let d : drop k l ≡ r = rw x.same (drop_at (decimal v) r k x.width) in
       rw (← ev, ← ek, d) x
 
   -- the number goes on behind the k digits of v, which is not 0
-  scan-sound : (r : List ℕ) (v k n j : ℕ) → 0 < v → Numeral most l r v k → scan most v k r ≡ Found n j → Numeral most l (drop j l) n j
+  scan_sound : (r : List ℕ) (v k n j : ℕ) → 0 < v → Numeral most l r v k → scan most v k r ≡ Found n j → Numeral most l (drop j l) n j
   unfolding scan
-  scan-sound [] v k n j p x e = numeral-found [] v k n j x e
-  scan-sound (c ∷ r) v k n j p x e =
+  scan_sound [] v k n j p x e = numeral_found [] v k n j x e
+  scan_sound (c ∷ r) v k n j p x e =
       cond_way (is_digit c) _ _
       (λ f. cond_way (ltb k most) _ _
-      (λ g. scan-sound r (v * 10 + (c - 48)) (k + 1) n j (omega arith) (numeral-more r v k c p f (ltb-true k most g) x))
+      (λ g. scan_sound r (v * 10 + (c - 48)) (k + 1) n j (omega arith) (numeral_more r v k c p f (ltb-true k most g) x))
       (λ g. missing))
-      (λ f. numeral-found (c ∷ r) v k n j x)
+      (λ f. numeral_found (c ∷ r) v k n j x)
       e
 
 numeral_first : (most c : ℕ) (l : List ℕ) → is_digit c ≡ true → Numeral most (c ∷ l) l (c - 48) 1
@@ -78,9 +78,9 @@ pub number_sound : (most : ℕ) (l : List ℕ) (n j : ℕ) → number most l ≡
 unfolding number
 number_sound most [] n j = missing
 number_sound most (c ∷ l) n j =
-    cond_way (eqb c 48) _ _ (λ f. rw (eqb-true c 48 f) (numeral-found most (48 ∷ l) l 0 1 n j (numeral_first most 48 l refl)))
+    cond_way (eqb c 48) _ _ (λ f. rw (eqb-true c 48 f) (numeral_found most (48 ∷ l) l 0 1 n j (numeral_first most 48 l refl)))
     (λ f. cond_way (is_digit c) _ _
-    (λ g. scan-sound most (c ∷ l) l (c - 48) 1 n j (omega (arith, eqb-false c 48 f, digit_bounds c g)) (numeral_first most c l g))
+    (λ g. scan_sound most (c ∷ l) l (c - 48) 1 n j (omega (arith, eqb-false c 48 f, digit_bounds c g)) (numeral_first most c l g))
     (λ g. missing))
 
 pub number_inside : (most : ℕ) (l : List ℕ) (n j : ℕ) → number most l ≡ Found n j → j ≤ length l
@@ -91,17 +91,17 @@ number_inside most l n j e =
 -- ---- what is written is read
 
 module _ (most : ℕ) where
-  scan-ended : (v k : ℕ) (r : List ℕ) → is_digit (get_or r 0 0) ≡ false → scan most v k r ≡ Found v k
+  scan_ended : (v k : ℕ) (r : List ℕ) → is_digit (get_or r 0 0) ≡ false → scan most v k r ≡ Found v k
   unfolding scan
-  scan-ended v k [] e = refl
-  scan-ended v k (c ∷ r) e = rw e
+  scan_ended v k [] e = refl
+  scan_ended v k (c ∷ r) e = rw e
 
   -- the digits of n, which is not 0, are read one by one; `top` bounds n
-  number-scan : (top n : ℕ) (r : List ℕ) → n ≤ top → 0 < n → length (decimal n) ≤ most
+  number_scan : (top n : ℕ) (r : List ℕ) → n ≤ top → 0 < n → length (decimal n) ≤ most
       → number most (decimal n ++ r) ≡ scan most n (length (decimal n)) r
   unfolding number scan
-  number-scan zero n r h p d = absurd (omega arith)
-  number-scan (suc top) n r h p d = go (way (ltb n 10)) (λ g. number-scan top (n / 10) ((48 + n % 10) ∷ r) (omega arith) (omega arith))
+  number_scan zero n r h p d = absurd (omega arith)
+  number_scan (suc top) n r h p d = go (way (ltb n 10)) (λ g. number_scan top (n / 10) ((48 + n % 10) ∷ r) (omega arith) (omega arith))
     where
       go : Way (ltb n 10)
           → (10 ≤ n → length (decimal (n / 10)) ≤ most
@@ -123,4 +123,4 @@ pub number_complete : (most n : ℕ) (r : List ℕ) → length (decimal n) ≤ m
 unfolding number decimal digits_of
 number_complete most zero r d e = refl
 number_complete most (suc n) r d e =
-    number-scan most (suc n) (suc n) r (omega arith) (omega arith) d ∙ scan-ended most (suc n) (length (decimal (suc n))) r e
+    number_scan most (suc n) (suc n) r (omega arith) (omega arith) d ∙ scan_ended most (suc n) (length (decimal (suc n))) r e

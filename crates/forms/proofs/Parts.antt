@@ -77,9 +77,9 @@ filling_none l before =
 
 module _ {l before into : List ℕ} {at count : ℕ} (m : Filling l before into at count) where
   -- one more place: what is left, by its first part
-  filling-part : (p : part.Part) → count < length into → part_at at (drop at l) ≡ p
+  filling_part : (p : part.Part) → count < length into → part_at at (drop at l) ≡ p
       → list 10 (length before) 0 l ≡ foldr push (list_by (λ k. list 10 (length before - (count + 1)) k (drop k l)) p) (take count into)
-  filling-part p h e =
+  filling_part p h e =
       let d : length before - count ≡ suc (length before - (count + 1)) = omega (arith, m.size) in
       m.same ∙ rw (d, list_by_lem (length before - (count + 1)) at l, e)
 
@@ -89,28 +89,28 @@ module _ {l before into : List ℕ} {at count : ℕ} (m : Filling l before into 
       record {
         few = omega (arith, m.size);
         size = length-set into count v ∙ m.size;
-        same = filling-part (part.TheVariants.Number v next) h e ∙ rw (add-one, take-suc-set into count v h, push_snoc);
+        same = filling_part (part.TheVariants.Number v next) h e ∙ rw (add-one, take-suc-set into count v h, push_snoc);
       }
 
   pub filling_close : (next : ℕ) → count < length into → part_at at (drop at l) ≡ part.TheVariants.Close next
       → Filled l before (listRead.TheVariants.Numbers count next) into
   filling_close next h e =
-      record { same = sym (filling-part (part.TheVariants.Close next) h e ∙ push_listed (take count into) next); few = m.few }
+      record { same = sym (filling_part (part.TheVariants.Close next) h e ∙ push_listed (take count into) next); few = m.few }
 
   pub filling_broken : count < length into → part_at at (drop at l) ≡ part.TheVariants.Broken → Filled l before listRead.TheVariants.Broken into
   filling_broken h e =
-      record { same = sym (filling-part part.TheVariants.Broken h e ∙ push_broken (take count into)); few = omega arith }
+      record { same = sym (filling_part part.TheVariants.Broken h e ∙ push_broken (take count into)); few = omega arith }
 
   -- no place is left
-  filling-last : (b : Bool) → length into ≤ count → starts (bytes ")") (drop at l) ≡ b
+  filling_last : (b : Bool) → length into ≤ count → starts (bytes ")") (drop at l) ≡ b
       → list 10 (length before) 0 l ≡ foldr push (cond b (listed [] (at + 1)) broken) (take count into)
   unfolding list
-  filling-last b h e =
+  filling_last b h e =
       let d : length before - count ≡ 0 = omega (arith, m.size) in
       m.same ∙ rw (d, e)
 
   pub filling_full : length into ≤ count → starts (bytes ")") (drop at l) ≡ true → Filled l before (listRead.TheVariants.Numbers count (at + 1)) into
-  filling_full h e = record { same = sym (filling-last true h e ∙ push_listed (take count into) (at + 1)); few = m.few }
+  filling_full h e = record { same = sym (filling_last true h e ∙ push_listed (take count into) (at + 1)); few = m.few }
 
   pub filling_over : length into ≤ count → starts (bytes ")") (drop at l) ≡ false → Filled l before listRead.TheVariants.Broken into
-  filling_over h e = record { same = sym (filling-last false h e ∙ push_broken (take count into)); few = omega arith }
+  filling_over h e = record { same = sym (filling_last false h e ∙ push_broken (take count into)); few = omega arith }

@@ -30,11 +30,11 @@ module _ {A : Type 0} {f : A → Bool} {n : ℕ} {l : List A} where
       let t : tally f (drop i (take n l)) ≡ 1 + tally f (drop (suc i) (take n l)) = rw (drop-cons (take n l) i z p, get_or-take n l i z k, e) in
       sym (lt-ltb 0 (tally f (take n l)) (omega (arith, w.same, t)))
 
-  unmet-all : {i : ℕ} → Unmet f n l i → length (take n l) ≤ i → false ≡ ltb 0 (tally f (take n l))
-  unmet-all {i} w h = rw (w.same, drop_of_length-le (take n l) h)
+  unmet_all : {i : ℕ} → Unmet f n l i → length (take n l) ≤ i → false ≡ ltb 0 (tally f (take n l))
+  unmet_all {i} w h = rw (w.same, drop_of_length-le (take n l) h)
 
   pub unmet_past : {i : ℕ} → Unmet f n l i → n ≤ i → false ≡ ltb 0 (tally f (take n l))
-  unmet_past w h = unmet-all w (omega (arith, length-take n l))
+  unmet_past w h = unmet_all w (omega (arith, length-take n l))
 
   pub unmet_end : {i : ℕ} → Unmet f n l i → length l ≤ i → false ≡ ltb 0 (tally f (take n l))
-  unmet_end w h = unmet-all w (omega (arith, length-take n l))
+  unmet_end w h = unmet_all w (omega (arith, length-take n l))

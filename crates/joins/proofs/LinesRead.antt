@@ -44,18 +44,18 @@ module _ {t : List ℕ} {i : ℕ} {x : List ℕ} {left : List (List ℕ)} (r : U
         rest = sym (drop-drop (length x) i t) ∙ ap (drop (length x)) r.rest ∙ drop-append_seam x (joined left);
       }
 
-  line-there : line_length (drop i t) + 1 ≡ length x → line_part t i true ≡ x
-  line-there e =
+  line_there : line_length (drop i t) + 1 ≡ length x → line_part t i true ≡ x
+  line_there e =
       let size : i + line_length (drop i t) + 1 - i ≡ length x = omega arith in
       rw (lt-ltb i (length t) (omega (arith, sizes)), lt-ltb (i + line_length (drop i t)) (length t) (omega (arith, sizes)), size, r.rest)
       (take-append_seam x (joined left))
 
   -- what is read there is the line, or nothing where it is not there
-  line-is : IsLine x → line_part t i (is_there x) ≡ x
-  line-is w = go (way (is_there x))
+  line_is : IsLine x → line_part t i (is_there x) ≡ x
+  line_is w = go (way (is_there x))
     where
       go : Way (is_there x) → line_part t i (is_there x) ≡ x
-      go (is e) = rw e (line-there (ap (λ (l : List ℕ). line_length l + 1) r.rest ∙ w e (joined left)))
+      go (is e) = rw e (line_there (ap (λ (l : List ℕ). line_length l + 1) r.rest ∙ w e (joined left)))
       go (isnt e) = rw (e, no_line x e)
 
 -- ---- a network's text
@@ -99,5 +99,5 @@ module _ {n : Network} {t : List ℕ} (g : IsTextOf t n) where
       → LineRead n t k i x
   line_read {k} {i} {there} {x} r h e f =
       let w : Unread t i (place_line n k ∷ lines_left n (k + 1)) = rw (lines_next h) at r in
-      let is : x ≡ place_line n k = f ∙ rw (e ∙ has_entry_lem n k g.consistent h) (line-is w (all_get IsLine (place_lines n) k [] (places_lines n) (λ z. never z))) in
+      let is : x ≡ place_line n k = f ∙ rw (e ∙ has_entry_lem n k g.consistent h) (line_is w (all_get IsLine (place_lines n) k [] (places_lines n) (λ z. never z))) in
       rw is record { line = lines_next h; more = unread_less w }

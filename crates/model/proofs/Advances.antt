@@ -29,8 +29,8 @@ use Rattle.model.proofs.Discovers.{server_discovers, not_exhausted}
 use Rattle.model.proofs.Named.{Written}
 use Rattle.model.proofs.Places.{node_bounds}
 use Rattle.model.proofs.Trips.{bare_with, Trip, at_source, on_wire, Travels, gone, further, moves, comes, travels, trip_some}
-use Rattle.model.proofs.Underway.{Leaves, Ends, Discovering, Begun, Returning, Underway, discovering, establishing, requesting, responderAuth, responderGrant, replying, initiatorAuth, initiatorGrant, acknowledging, doneOut, doneOnWire, doneUp, doneBare}
-use Rattle.model.proofs.Points.{next_node, points, walk_found, walk_on, points_next, after_client, between_next, met_once, Chained, responderOut, responderIn, initiatorOut, initiatorIn, never-tunnelled, passed}
+use Rattle.model.proofs.Underway.{Leaves, Ends, Discovering, Begun, Returning, Underway, discovering, establishing, requesting, responder_auth, responder_grant, replying, initiator_auth, initiator_grant, acknowledging, done_out, done_on_wire, done_up, done_bare}
+use Rattle.model.proofs.Points.{next_node, points, walk_found, walk_on, points_next, after_client, between_next, met_once, Chained, responder_out, responder_in, initiator_out, initiator_in, never_tunnelled, passed}
 
 -- it is counted, the item written is under way again, and the rows added are of the chain
 pub record Next (net : Network) (c d b n : ℕ) (f : Effect) : Type 0 where
@@ -72,24 +72,24 @@ module _ (net : Network) (t : Part) (n : ℕ) where
     moved_on Missing p few w = loses few
 
     -- a packet on its way goes on, is lost or is received
-    on-trip : {j : ℕ} {f : Effect} {x z : ℕ} {y : Payload} → n + 1 ≤ ceiling → Travels x z y j f
+    on_trip : {j : ℕ} {f : Effect} {x z : ℕ} {y : Payload} → n + 1 ≤ ceiling → Travels x z y j f
         → ((k : ℕ) (i : Item) → Trip x z y k i → k < j → Place i) → After (received z x y) → After f
-    on-trip h (gone l) g r = loses h
-    on-trip h (further k i w m) g r = wrote h (g k i w m)
-    on-trip h (moves next k m) g r = moved_on next _ h (g (k + 2) _ (on_wire (next_node next) k) m)
-    on-trip h comes g r = r
+    on_trip h (gone l) g r = loses h
+    on_trip h (further k i w m) g r = wrote h (g k i w m)
+    on_trip h (moves next k m) g r = moved_on next _ h (g (k + 2) _ (on_wire (next_node next) k) m)
+    on_trip h comes g r = r
 
     -- the client discovers nothing
-    not-client : (a p : ℕ) → discovers (is_gateway net a) d a (Disc p) ≡ true → a ≡ c → ⊥
-    not-client a p e k =
+    not_client : (a p : ℕ) → discovers (is_gateway net a) d a (Disc p) ≡ true → a ≡ c → ⊥
+    not_client a p e k =
         let m = (both (not (eqb a p)) (is_gateway net a || eqb a d) e).1 in
-        let w : (is_gateway net a || eqb a d) ≡ false = rw (k, ends.no-gateway) (ne_eqb c d ends.apart) in
+        let w : (is_gateway net a || eqb a d) ≡ false = rw (k, ends.no_gateway) (ne_eqb c d ends.apart) in
         never (sym w ∙ m)
 
     -- a Disc that nobody discovers at a, and that has hops left
-    onward-disc : (a h : ℕ) → Discovering net c d b n a h → discovers (is_gateway net a) d a (Disc (point b)) ≡ false → (h ≡ 0 → ⊥)
+    onward_disc : (a h : ℕ) → Discovering net c d b n a h → discovers (is_gateway net a) d a (Disc (point b)) ≡ false → (h ≡ 0 → ⊥)
         → After (onward (next_hop net a d) (bare_with c d (Disc (point b)) (h - 1)))
-    onward-disc a h w g z =
+    onward_disc a h w g z =
         moved_on (next_hop net a d) (bare_with c d (Disc (point b)) (h - 1)) (omega (arith, w.leaves, w.few))
         (discovering (next_node (next_hop net a d)) (h - 1)
         (record {
@@ -107,7 +107,7 @@ module _ (net : Network) (t : Part) (n : ℕ) where
         let e : point (b + 1) ≡ a = sym w.arrives ∙ walk_found net d (point b) h a g in
         let begun : Begun net c d (b + 1) b =
         record {
-          between = between_next net c d b w.between w.before (λ z. not-client a (point b) g (sym e ∙ z));
+          between = between_next net c d b w.between w.before (λ z. not_client a (point b) g (sym e ∙ z));
           number = refl;
           few = omega arith;
         } in
@@ -121,11 +121,11 @@ module _ (net : Network) (t : Part) (n : ℕ) where
         }
 
     -- the ack of the server sends Done, any other the next Disc
-    ack-next : (i : ℕ) → Begun net c d b i → Leaves b n 1 → Place (acknowledged t.session (point b))
-    ack-next i w k =
+    ack_next : (i : ℕ) → Begun net c d b i → Leaves b n 1 → Place (acknowledged t.session (point b))
+    ack_next i w k =
         either Place (eqb (point b) d)
         (λ e.
-        doneOut hop_limit (point b) b (omega arith)
+        done_out hop_limit (point b) b (omega arith)
         (record { between = w.between; server = eqb-true (point b) d e; here = refl; least = omega (arith, w.number); most = omega arith })
         (omega (arith, w.few)))
         (λ e.
@@ -139,22 +139,22 @@ module _ (net : Network) (t : Part) (n : ℕ) where
         }))
 
     -- through the matching tunnel, or bare
-    done-sent : (m x k : ℕ) → m ≤ hop_limit → Returning net c d b x k → trip_steps * k + n ≤ ceiling → After (sent (held t) x (bare_with d c Done m))
-    done-sent m x k o w l =
+    done_sent : (m x k : ℕ) → m ≤ hop_limit → Returning net c d b x k → trip_steps * k + n ≤ ceiling → After (sent (held t) x (bare_with d c Done m))
+    done_sent m x k o w l =
         let p = bare_with d c Done m in
         either (λ (h : Header). After (writes (Wire x (under p h)))) (eqb (newest (held t) true x p).first 0)
-        (λ e. wrote (omega (arith, w.least)) (doneBare (on_wire x m) (omega arith) (omega (arith, w.least))))
-        (λ e. wrote (omega (arith, w.least)) (doneOnWire m k _ x o e w (omega (arith, w.least))))
+        (λ e. wrote (omega (arith, w.least)) (done_bare (on_wire x m) (omega arith) (omega (arith, w.least))))
+        (λ e. wrote (omega (arith, w.least)) (done_on_wire m k _ x o e w (omega (arith, w.least))))
 
     -- out of the tunnel from x, and on from y, which is the point before
-    done-through : (m x k y : ℕ) → m ≤ hop_limit → Returning net c d b x k → trip_steps * (k - 1) + 1 + n ≤ ceiling → are_nodes y x ≡ true
+    done_through : (m x k y : ℕ) → m ≤ hop_limit → Returning net c d b x k → trip_steps * (k - 1) + 1 + n ≤ ceiling → are_nodes y x ≡ true
         → (newest (held t) false y (bare d c Done)).first ≡ x → (c ≡ y → ⊥) → After (writes (Out y (bare_with d c Done m)))
-    done-through m x k y o w l g e f =
+    done_through m x k y o w l g e f =
         let v = passed net c d b ends.apart y (held t) rows (λ z. absurd (omega (arith, node_bounds y x g, e, z))) in
         let same : k ≡ v.number = met_once net c d b w.between w.server k v.number (sym w.here ∙ sym e ∙ v.far) w.most v.few in
         let on : 1 ≤ v.place = after_client net c d v.place (λ z. f (sym (v.near ∙ z))) in
         wrote (omega arith)
-        (doneOut m y v.place o
+        (done_out m y v.place o
         (record { between = w.between; server = w.server; here = v.near; least = on; most = omega (arith, v.follows, v.few) })
         (omega (arith, v.follows, same)))
 
@@ -173,59 +173,59 @@ module _ (net : Network) (t : Part) (n : ℕ) where
         let e = eqb-true a d o in
         never (sym g ∙ server_discovers (is_gateway net a) d a (point b) (λ y. w.before (sym y ∙ e)) e))
         (λ o. either After (unprotected (is_gateway net a) p) (λ o. loses few)
-        (λ o. either After (no_hops_left p) (λ z. loses few) (λ z. onward-disc a h w g (eqb-false h 0 z)))))
+        (λ o. either After (no_hops_left p) (λ z. loses few) (λ z. onward_disc a h w g (eqb-false h 0 z)))))
     advances x (establishing i w k) =
         record { counted = omega arith; written = (λ o. requesting i w at_source (omega arith), λ o. never o); added = tt }
     advances x (requesting i w v k) =
         let p = bare (point b) (point i) (Req b) in
-        on-trip (omega arith)
+        on_trip (omega arith)
         (travels net t (point b) (point i) (Req b) (λ g u x. refl)
-        (λ m. never-tunnelled net c d b (point b) p i w.number w.between (eq-eqb b b refl) (λ z. (initiator i w, z)) (held t) rows) v)
+        (λ m. never_tunnelled net c d b (point b) p i w.number w.between (eq-eqb b b refl) (λ z. (initiator i w, z)) (held t) rows) v)
         (λ j x u m. requesting i w u (omega arith))
-        (wrote (omega arith) (responderAuth i w (omega (arith, trip_some v))))
-    advances x (responderAuth i w k) =
+        (wrote (omega arith) (responder_auth i w (omega (arith, trip_some v))))
+    advances x (responder_auth i w k) =
         either After (has_all_needed net (point i) (point b))
-        (λ e. wrote (omega arith) (responderGrant i w (omega arith)))
+        (λ e. wrote (omega arith) (responder_grant i w (omega arith)))
         (λ e. record { counted = omega arith; written = tt; added = tt })
-    advances x (responderGrant i w k) =
+    advances x (responder_grant i w k) =
         record {
           counted = omega arith;
           written = λ o. replying i w at_source (omega arith);
-          added = (responderOut i b w.number (omega arith), (responderIn i b w.number (omega arith), tt));
+          added = (responder_out i b w.number (omega arith), (responder_in i b w.number (omega arith), tt));
         }
     advances x (replying i w v k) =
         let p = bare (point i) (point b) (Rep b) in
-        on-trip (omega arith)
+        on_trip (omega arith)
         (travels net t (point i) (point b) (Rep b) (λ g u x. refl)
-        (λ m. never-tunnelled net c d b (point i) p i w.number w.between (eq-eqb b b refl) (λ z. (z, initiator i w)) (held t) rows) v)
+        (λ m. never_tunnelled net c d b (point i) p i w.number w.between (eq-eqb b b refl) (λ z. (z, initiator i w)) (held t) rows) v)
         (λ j x u m. replying i w u (omega arith))
-        (record { counted = omega arith; written = λ o. initiatorAuth i w (omega (arith, trip_some v)); added = tt })
-    advances x (initiatorAuth i w k) =
+        (record { counted = omega arith; written = λ o. initiator_auth i w (omega (arith, trip_some v)); added = tt })
+    advances x (initiator_auth i w k) =
         either After (has_all_needed net (point b) (point i))
-        (λ e. wrote (omega arith) (initiatorGrant i w (omega arith)))
+        (λ e. wrote (omega arith) (initiator_grant i w (omega arith)))
         (λ e. record { counted = omega arith; written = tt; added = tt })
-    advances x (initiatorGrant i w k) =
+    advances x (initiator_grant i w k) =
         record {
           counted = omega arith;
           written = λ o. acknowledging i w (omega arith);
-          added = (initiatorOut i b w.number (omega arith), (initiatorIn i b w.number (omega arith), tt));
+          added = (initiator_out i b w.number (omega arith), (initiator_in i b w.number (omega arith), tt));
         }
-    advances x (acknowledging i w k) = record { counted = omega arith; written = λ o. ack-next i w k; added = tt }
-    advances i (doneOut m x k o w l) =
+    advances x (acknowledging i w k) = record { counted = omega arith; written = λ o. ack_next i w k; added = tt }
+    advances i (done_out m x k o w l) =
         let p = bare_with d c Done m in
-        either After (created x p) (λ e. done-sent m x k o w l)
-        (λ e. either After (no_hops_left p) (λ z. loses (omega (arith, w.least))) (λ z. done-sent (m - 1) x k (omega arith) w l))
-    advances i (doneOnWire m k h y o u w l) =
+        either After (created x p) (λ e. done_sent m x k o w l)
+        (λ e. either After (no_hops_left p) (λ z. loses (omega (arith, w.least))) (λ z. done_sent (m - 1) x k (omega arith) w l))
+    advances i (done_on_wire m k h y o u w l) =
         let p = under (bare_with d c Done m) h in
         let few : n + 1 ≤ ceiling = omega arith in
         let inner : (fewer p).hops ≤ hop_limit = rw u (omega arith) in
         let outer : (fewer p).header.hops ≡ h.hops - 1 = rw u in
-        either After (eqb y (target p)) (λ e. wrote few (doneUp m k h y o u w (omega arith)))
+        either After (eqb y (target p)) (λ e. wrote few (done_up m k h y o u w (omega arith)))
         (λ e. either After (unprotected (is_gateway net y) p) (λ o. loses few)
         (λ e. either After (no_hops_left p) (λ z. loses few)
         (λ z. moved_on (next_hop net y (target p)) (fewer p) few
-        (doneOnWire (fewer p).hops k (fewer p).header _ inner u w (omega (arith, outer, eqb-false h.hops 0 (rw u at z)))))))
-    advances i (doneUp m k h y o u w l) =
+        (done_on_wire (fewer p).hops k (fewer p).header _ inner u w (omega (arith, outer, eqb-false h.hops 0 (rw u at z)))))))
+    advances i (done_up m k h y o u w l) =
         let few : n + 1 ≤ ceiling = omega arith in
         let p = under (bare_with d c Done m) h in
         let x = h.from in
@@ -235,11 +235,11 @@ module _ (net : Network) (t : Part) (n : ℕ) where
         either After (not admit) (λ e. loses few)
         (λ e. either After (not match) (λ g. loses few)
         (λ g. either After (not (eqb c y))
-        (λ f. done-through _ x k y (omega arith) w l (both (are_nodes y x) (admits (held t) y x) (rw u at (not-false admit e))).0 (eqb-true _ _ (not-false match g) ∙ from)
+        (λ f. done_through _ x k y (omega arith) w l (both (are_nodes y x) (admits (held t) y x) (rw u at (not-false admit e))).0 (eqb-true _ _ (not-false match g) ∙ from)
         (eqb-false c y (not-true (eqb c y) f)))
         (λ f. record { counted = few; written = tt; added = tt })))
-    advances i (doneBare v l m) =
-        on-trip (omega (arith, trip_some v))
+    advances i (done_bare v l m) =
+        on_trip (omega (arith, trip_some v))
         (travels net t d c Done (λ g u x. refl) (λ o. absurd (omega arith)) v)
-        (λ j x u o. doneBare u (omega arith) (omega arith))
+        (λ j x u o. done_bare u (omega arith) (omega arith))
         (record { counted = omega (arith, trip_some v); written = tt; added = tt })

@@ -22,7 +22,7 @@ use Rattle.model.proofs.Lists.{replicate_at}
 use Rattle.model.proofs.Nodes.{Node, Destination, place_is}
 use Rattle.model.proofs.Consistent.{nodes_kept, consistent_fresh}
 use Rattle.model.proofs.Fills.{empty_free}
-use Rattle.model.proofs.Pairs.{together_all, together_length, together_at, together-is}
+use Rattle.model.proofs.Pairs.{together_all, together_length, together_at, together_is}
 use Rattle.model.proofs.Clash.{agree_node, agree_route}
 
 -- ---- two entries
@@ -47,16 +47,16 @@ abbrev GivenNode : declared.Node → Type 0
 GivenNode x = x.given ≡ true
 
 module _ (n m : Network) (h : Consistent n) (k : Consistent m) where
-  nodes-length : length n.nodes ≡ length m.nodes
-  nodes-length = h.nodes ∙ sym k.nodes
+  nodes_length : length n.nodes ≡ length m.nodes
+  nodes_length = h.nodes ∙ sym k.nodes
 
-  routes-length : length n.routes ≡ length m.routes
-  routes-length = h.routes ∙ sym k.routes
+  routes_length : length n.routes ≡ length m.routes
+  routes_length = h.routes ∙ sym k.routes
 
   pub union_node : (a : ℕ) → node_at (union n m) a ≡ cond (given n a) (node_at n a) (node_at m a)
   unfolding node_at
   union_node a =
-      rw (together_at either_node no_node refl n.nodes m.nodes nodes-length (a - 1))
+      rw (together_at either_node no_node refl n.nodes m.nodes nodes_length (a - 1))
       (go (is_node a) (get_or n.nodes (a - 1) no_node) (get_or m.nodes (a - 1) no_node))
     where
       go : (b : Bool) (x y : declared.Node) → cond b (either_node x y) no_node ≡ cond (cond b x no_node).given (cond b x no_node) (cond b y no_node)
@@ -64,19 +64,19 @@ module _ (n m : Network) (h : Consistent n) (k : Consistent m) where
       go false x y = refl
 
   pub union_route : (a b : ℕ) → route_to (union n m) a b ≡ cond (is_routed n a b) (route_to n a b) (route_to m a b)
-  union_route a b = together_at either_route 0 refl n.routes m.routes routes-length (route_place a b)
+  union_route a b = together_at either_route 0 refl n.routes m.routes routes_length (route_place a b)
 
-  keeps-first : (a : ℕ) → given n a ≡ true → given (union n m) a ≡ true
-  keeps-first a e = subst GivenNode (sym (union_node a)) (either GivenNode (given n a) (λ w. e) (λ w. never (sym w ∙ e)))
+  keeps_first : (a : ℕ) → given n a ≡ true → given (union n m) a ≡ true
+  keeps_first a e = subst GivenNode (sym (union_node a)) (either GivenNode (given n a) (λ w. e) (λ w. never (sym w ∙ e)))
 
-  keeps-second : (a : ℕ) → given m a ≡ true → given (union n m) a ≡ true
-  keeps-second a e = subst GivenNode (sym (union_node a)) (either GivenNode (given n a) (λ w. w) (λ w. e))
+  keeps_second : (a : ℕ) → given m a ≡ true → given (union n m) a ≡ true
+  keeps_second a e = subst GivenNode (sym (union_node a)) (either GivenNode (given n a) (λ w. w) (λ w. e))
 
   pub union_consistent : Consistent (union n m)
   union_consistent =
       record {
-        nodes = together_length either_node n.nodes m.nodes nodes-length ∙ h.nodes;
-        routes = together_length either_route n.routes m.routes routes-length ∙ h.routes;
+        nodes = together_length either_node n.nodes m.nodes nodes_length ∙ h.nodes;
+        routes = together_length either_route n.routes m.routes routes_length ∙ h.routes;
         places = together_all either_node IsPlace (λ x y u v. either IsPlace x.given (λ e. u) (λ e. v)) n.nodes m.nodes h.places k.places;
         routed = λ a b i j. rw (union_route a b) (passes a b i j);
       }
@@ -85,20 +85,20 @@ module _ (n m : Network) (h : Consistent n) (k : Consistent m) where
           ltb 0 next ≡ true → Passes (union n m) a b next
       passes a b i j =
           either (λ (next : ℕ). ltb 0 next ≡ true → Passes (union n m) a b next) (is_routed n a b)
-          (λ w e. let p = h.routed a b i j e in (nodes_kept n (union n m) keeps-first a b (route_to n a b) p.0, p.1))
-          (λ w e. let p = k.routed a b i j e in (nodes_kept m (union n m) keeps-second a b (route_to m a b) p.0, p.1))
+          (λ w e. let p = h.routed a b i j e in (nodes_kept n (union n m) keeps_first a b (route_to n a b) p.0, p.1))
+          (λ w e. let p = k.routed a b i j e in (nodes_kept m (union n m) keeps_second a b (route_to m a b) p.0, p.1))
 
   -- it is the network r whose entries are these
-  union-is : (r : Network) → Consistent r
+  union_is : (r : Network) → Consistent r
       → ((j : ℕ) → j < 32 → either_node (get_or n.nodes j no_node) (get_or m.nodes j no_node) ≡ get_or r.nodes j no_node)
       → ((p : ℕ) → p < 1056 → either_route (get_or n.routes p 0) (get_or m.routes p 0) ≡ get_or r.routes p 0)
       → union n m ≡ r
-  union-is r g nodes routes =
+  union_is r g nodes routes =
       let same_nodes = h.nodes ∙ sym g.nodes in
       let same-routes = h.routes ∙ sym g.routes in
       rebuilt
-      (together-is either_node no_node refl n.nodes m.nodes r.nodes nodes-length same_nodes (λ j w. nodes j (omega (arith, h.nodes))))
-      (together-is either_route 0 refl n.routes m.routes r.routes routes-length same-routes (λ p w. routes p (omega (arith, h.routes))))
+      (together_is either_node no_node refl n.nodes m.nodes r.nodes nodes_length same_nodes (λ j w. nodes j (omega (arith, h.nodes))))
+      (together_is either_route 0 refl n.routes m.routes r.routes routes_length same-routes (λ p w. routes p (omega (arith, h.routes))))
     where
       rebuilt : {l s : List declared.Node} {t u : List ℕ} → l ≡ s → t ≡ u
           → ◌≡◌ {A = Network} (record { nodes = l; routes = t }) (record { nodes = s; routes = u })
@@ -107,20 +107,20 @@ module _ (n m : Network) (h : Consistent n) (k : Consistent m) where
 -- where they agree, it is all one which is named first
 pub union_comm : (n m : Network) → Consistent n → Consistent m → Agree n m → union n m ≡ union m n
 union_comm n m h k g =
-    union-is n m h k (union m n) (union_consistent m n k h)
+    union_is n m h k (union m n) (union_consistent m n k h)
     (λ j w.
     either_comm _ _ _ _ (agree_node n m g j w) (λ e f. (place_is m k j).empty f ∙ sym ((place_is n h j).empty e))
-    ∙ sym (together_at either_node no_node refl m.nodes n.nodes (nodes-length m n k h) j))
+    ∙ sym (together_at either_node no_node refl m.nodes n.nodes (nodes_length m n k h) j))
     (λ p w.
     either_comm _ _ _ _ (agree_route n m g p) (λ e f. none_route _ f ∙ sym (none_route _ e))
-    ∙ sym (together_at either_route 0 refl m.routes n.routes (routes-length m n k h) p))
+    ∙ sym (together_at either_route 0 refl m.routes n.routes (routes_length m n k h) p))
 
 -- n has all that m has
 union_first : (n m : Network) → Consistent n → Consistent m
     → ((j : ℕ) → (get_or n.nodes j no_node).given ≡ false → get_or n.nodes j no_node ≡ get_or m.nodes j no_node)
     → ((p : ℕ) → ltb 0 (get_or n.routes p 0) ≡ false → get_or n.routes p 0 ≡ get_or m.routes p 0)
     → union n m ≡ n
-union_first n m h k nodes routes = union-is n m h k n h (λ j w. either_first _ _ _ (nodes j)) (λ p w. either_first _ _ _ (routes p))
+union_first n m h k nodes routes = union_is n m h k n h (λ j w. either_first _ _ _ (nodes j)) (λ p w. either_first _ _ _ (routes p))
 
 pub union_itself : (n : Network) → Consistent n → union n n ≡ n
 union_itself n h = union_first n n h h (λ j e. refl) (λ p e. refl)

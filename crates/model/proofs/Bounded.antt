@@ -66,9 +66,9 @@ module _ (network : Network) (t : Part) (h : Sane t) (n : ℕ) (k : Tracked netw
       (step_tracked network t h n k at (leb-false 16 at e.1.0) e.1.1.0))
 
   -- the first Disc is on its way to the first point
-  tracked-opening : (c d : ℕ) → unused t ≡ true → Ends network c d → Tracked network (opening t c d) 0
+  tracked_opening : (c d : ℕ) → unused t ≡ true → Ends network c d → Tracked network (opening t c d) 0
   unfolding opening points
-  tracked-opening c d u o =
+  tracked_opening c d u o =
       let i = h.idle u in
       let P = Tracks network c d t.session.begun 0 in
       let first : Underway network c d 0 0 (Wire c (bare c d (Disc c))) =
@@ -86,17 +86,17 @@ module _ (network : Network) (t : Part) (h : Sane t) (n : ℕ) (k : Tracked netw
         rows = rw i.0 tt;
       }
 
-  counts-open : (c d : ℕ) → Counts network n 0 (seen_move t (open_move network c d t))
+  counts_open : (c d : ℕ) → Counts network n 0 (seen_move t (open_move network c d t))
   unfolding open_move
-  counts-open c d =
+  counts_open c d =
       checked_either (λ (m : Move). Counts network n 0 (seen_move t m)) refuse (λ r. k) _
       (λ e.
-      tracked-opening c d (not-false (unused t) e.0)
-      (record { no-gateway = (neither (is_gateway network c) (is_gateway network d) e.1.1.1.0).0; apart = eqb-false c d e.1.1.0 }))
+      tracked_opening c d (not-false (unused t) e.0)
+      (record { no_gateway = (neither (is_gateway network c) (is_gateway network d) e.1.1.1.0).0; apart = eqb-false c d e.1.1.0 }))
 
-  counts-send : (w : Sender) (tag : ℕ) → Counts network n n (seen_move t (send_move w tag t))
+  counts_send : (w : Sender) (tag : ℕ) → Counts network n n (seen_move t (send_move w tag t))
   unfolding send_move sending
-  counts-send w tag =
+  counts_send w tag =
       checked_either (λ (m : Move). Counts network n n (seen_move t m)) refuse (λ r. k) _
       (λ e.
       record {
@@ -105,37 +105,37 @@ module _ (network : Network) (t : Part) (h : Sane t) (n : ℕ) (k : Tracked netw
         rows = k.rows;
       })
 
-  counts-close : Counts network n n (seen_move t (close_move t))
+  counts_close : Counts network n n (seen_move t (close_move t))
   unfolding close_move closing
-  counts-close =
+  counts_close =
       checked_either (λ (m : Move). Counts network n n (seen_move t m)) refuse (λ r. k) _
       (λ e. unused_tracked network _ (sane_empty t.session.last.0 h.last) refl n k.few)
 
   -- items and rows are apart, so that rows may go
-  counts-drop : (e : ℕ) → Counts network n n (seen_move t (drop_move e t))
+  counts_drop : (e : ℕ) → Counts network n n (seen_move t (drop_move e t))
   unfolding drop_move dropping
-  counts-drop e =
+  counts_drop e =
       checked_either (λ (m : Move). Counts network n n (seen_move t m)) refuse (λ r. k) _
       (λ w. record { few = k.few; items = k.items; rows = rw (held_dropping e t) (all_those _ (is_other e) (held t) k.rows) })
 
   -- ---- a line
 
-  counts-line : (o : Option Form) → Counts network n (form_count t.items n o) (seen_parsed network t (asked o).parsed)
-  counts-line (some (node a x has needs)) =
+  counts_line : (o : Option Form) → Counts network n (form_count t.items n o) (seen_parsed network t (asked o).parsed)
+  counts_line (some (node a x has needs)) =
       either (λ (r : Reading). Counts network n n (seen_parsed network t r.parsed)) (is_node a && (rising 0 has && rising 0 needs)) (λ e. k) (λ e. k)
-  counts-line (some (route a b next)) = ranged_seen (Counts network n n) network t k (is_node a && (is_destination b && is_node next)) _ k
-  counts-line (some («open» u c d)) = ranged_seen (Counts network n 0) network t k (is_session u && (is_node c && is_node d)) _ (counts-open c d)
-  counts-line (some (step u i)) = ranged_seen (Counts network n _) network t k (is_session u && is_item i) _ (counts_step i)
-  counts-line (some (send u w tag)) = ranged_seen (Counts network n n) network t k (is_session u && (within 0 1 w && is_tag tag)) _ (counts-send _ tag)
-  counts-line (some (close u)) = ranged_seen (Counts network n n) network t k (is_session u) _ counts-close
-  counts-line (some show) = k
-  counts-line (some net) = k
-  counts-line (some (take_down u e)) = ranged_seen (Counts network n n) network t k (is_session u && is_establishment e) _ (counts-drop e)
-  counts-line none = k
+  counts_line (some (route a b next)) = ranged_seen (Counts network n n) network t k (is_node a && (is_destination b && is_node next)) _ k
+  counts_line (some («open» u c d)) = ranged_seen (Counts network n 0) network t k (is_session u && (is_node c && is_node d)) _ (counts_open c d)
+  counts_line (some (step u i)) = ranged_seen (Counts network n _) network t k (is_session u && is_item i) _ (counts_step i)
+  counts_line (some (send u w tag)) = ranged_seen (Counts network n n) network t k (is_session u && (within 0 1 w && is_tag tag)) _ (counts_send _ tag)
+  counts_line (some (close u)) = ranged_seen (Counts network n n) network t k (is_session u) _ counts_close
+  counts_line (some show) = k
+  counts_line (some net) = k
+  counts_line (some (take_down u e)) = ranged_seen (Counts network n n) network t k (is_session u && is_establishment e) _ (counts_drop e)
+  counts_line none = k
 
-  counts-local : (c : Call) → Counts network n (form_count t.items n (read c.line)) (local network t c)
+  counts_local : (c : Call) → Counts network n (form_count t.items n (read c.line)) (local network t c)
   unfolding local
-  counts-local c = either (Counts network n (form_count t.items n (read c.line))) (ltb c.size 65536) (λ e. k) (λ e. counts-line (read c.line))
+  counts_local c = either (Counts network n (form_count t.items n (read c.line))) (ltb c.size 65536) (λ e. k) (λ e. counts_line (read c.line))
 
 -- ---- calls
 
@@ -148,8 +148,8 @@ pub record Follows (u : ℕ) (s : State) (n : ℕ) : Type 0 where
   pub tracked : Tracked s.network (load s u) n
 
 module _ (u : ℕ) (hu : Numbered u) where
-  call-tracked : (s : State) (n : ℕ) → Follows u s n → (c : Call) → Tracked (call s c).state.network (load (call s c).state u) (call_count u s n c)
-  call-tracked s n h c = go (way (is_own u c))
+  call_tracked : (s : State) (n : ℕ) → Follows u s n → (c : Call) → Tracked (call s c).state.network (load (call s c).state u) (call_count u s n c)
+  call_tracked s n h c = go (way (is_own u c))
     where
       k : Sound s
       k = h.sound
@@ -158,7 +158,7 @@ module _ (u : ℕ) (hu : Numbered u) where
       go (is e) =
           rw (e, call_network s c (own_gives_nothing u c e))
           (subst (Counts s.network n (form_count (load s u).items n (read c.line)))
-          (sym (call_own s k.good u hu c e)) (counts-local s.network (load s u) (k.sane u hu) n h.tracked c))
+          (sym (call_own s k.good u hu c e)) (counts_local s.network (load s u) (k.sane u hu) n h.tracked c))
       go (isnt e) =
           rw (e, call_others s k.good c u hu e)
           (call_cases (λ (x : State). Tracked x.network (load s u) n) s c h.tracked
@@ -166,7 +166,7 @@ module _ (u : ℕ) (hu : Numbered u) where
           (λ q i w. rw (performed_network s _ _) h.tracked))
 
   pub call_follows : (s : State) (n : ℕ) → Follows u s n → (c : Call) → Follows u (call s c).state (call_count u s n c)
-  call_follows s n h c = record { sound = call_sound s h.sound c; tracked = call-tracked s n h c }
+  call_follows s n h c = record { sound = call_sound s h.sound c; tracked = call_tracked s n h c }
 
   pub calls_follow : (cs : List Call) (s : State) (n : ℕ) → Follows u s n → Follows u (after s cs) (set_up_steps u s n cs)
   unfolding after set_up_steps

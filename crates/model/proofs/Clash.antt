@@ -113,12 +113,12 @@ module _ (n m : Network) (g : Agree n m) where
       sym s ∙ g.routes (place_at p) (place_destination p) (rw s u) (rw t v) ∙ t
 
 module _ (n m : Network) (h : Consistent n) (k : Consistent m) where
-  places-apart : clash n m ≡ false → (i : ℕ) → i < 1088 → differ (get_or (place_lines n) i []) (get_or (place_lines m) i []) ≡ false
-  places-apart e i w =
+  places_apart : clash n m ≡ false → (i : ℕ) → i < 1088 → differ (get_or (place_lines n) i []) (get_or (place_lines m) i []) ≡ false
+  places_apart e i w =
       nowhere_at differ [] (place_lines n) (place_lines m) (places_count n h ∙ sym (places_count m k)) e i (omega (arith, places_count n h))
 
-  clash-agree : clash n m ≡ false → Agree n m
-  clash-agree e = record { nodes = nodes; routes = λ a b. routes (route_place a b) }
+  clash_agree : clash n m ≡ false → Agree n m
+  clash_agree e = record { nodes = nodes; routes = λ a b. routes (route_place a b) }
     where
       nodes : (a : ℕ) → given n a ≡ true → given m a ≡ true → node_at n a ≡ node_at m a
       nodes a g j =
@@ -127,7 +127,7 @@ module _ (n m : Network) (h : Consistent n) (k : Consistent m) where
           let s = node_stored n a i in
           let t = node_stored m a i in
           let w : a - 1 < 32 = omega arith in
-          let d = rw (node_line n (a - 1) h.nodes w, node_line m (a - 1) k.nodes w) at (places-apart e (a - 1) (omega arith)) in
+          let d = rw (node_line n (a - 1) h.nodes w, node_line m (a - 1) k.nodes w) at (places_apart e (a - 1) (omega arith)) in
           let u = rw (s, given) at g in
           let v = rw (t, given) at j in
           s ∙ node_same (1 + (a - 1)) _ _ (place_is n h (a - 1)) (place_is m k (a - 1)) u v (forms_same _ _ _ _ d u v) ∙ sym t
@@ -135,13 +135,13 @@ module _ (n m : Network) (h : Consistent n) (k : Consistent m) where
       routes : (p : ℕ) → let x = get_or n.routes p 0 in let y = get_or m.routes p 0 in ltb 0 x ≡ true → ltb 0 y ≡ true → x ≡ y
       routes p g j =
           let w = routed_below n h p g in
-          let d = rw (route_at_lem n h p w, route_at_lem m k p w) at (places-apart e (32 + p) (omega arith)) in
+          let d = rw (route_at_lem n h p w, route_at_lem m k p w) at (places_apart e (32 + p) (omega arith)) in
           let line : ℕ → Form = route (place_at p) (place_destination p) in
           let s = forms_same _ _ (line (get_or n.routes p 0)) (line (get_or m.routes p 0)) d g j in
           cc
 
-  agree-clash : Agree n m → clash n m ≡ false
-  agree-clash g = at_nowhere differ [] (place_lines n) (place_lines m) (λ i w. go i (omega (arith, places_count n h)) (way (ltb i 32)))
+  agree_clash : Agree n m → clash n m ≡ false
+  agree_clash g = at_nowhere differ [] (place_lines n) (place_lines m) (λ i w. go i (omega (arith, places_count n h)) (way (ltb i 32)))
     where
       go : (i : ℕ) → i < 1088 → Way (ltb i 32) → differ (get_or (place_lines n) i []) (get_or (place_lines m) i []) ≡ false
       go i w (is e) =
@@ -155,4 +155,4 @@ module _ (n m : Network) (h : Consistent n) (k : Consistent m) where
           (same_differ _ _ _ _ (λ u v. ap (route (place_at p) (place_destination p)) (agree_route n m g p u v)))
 
   pub clash_exactly : (clash n m ≡ false) ↔ Agree n m
-  clash_exactly = (clash-agree, agree-clash)
+  clash_exactly = (clash_agree, agree_clash)

@@ -40,8 +40,8 @@ consistent_fresh =
 
 -- m has the nodes of n
 module _ (n m : Network) (keeps : (a : ℕ) → given n a ≡ true → given m a ≡ true) where
-  destination-kept : (b : ℕ) → destination_given n b ≡ true → destination_given m b ≡ true
-  destination-kept b = go (is_default b)
+  destination_kept : (b : ℕ) → destination_given n b ≡ true → destination_given m b ≡ true
+  destination_kept b = go (is_default b)
     where
       go : (t : Bool) → (t || given n b) ≡ true → (t || given m b) ≡ true
       go true h = refl
@@ -50,12 +50,12 @@ module _ (n m : Network) (keeps : (a : ℕ) → given n a ≡ true → given m a
   pub nodes_kept : (a b next : ℕ) → nodes_given n a b next ≡ true → nodes_given m a b next ≡ true
   nodes_kept a b next e =
       let g = nodes_given_lem n a b next e in
-      rw (keeps a g.at, destination-kept b g.for, keeps next g.by)
+      rw (keeps a g.at, destination_kept b g.for, keeps next g.by)
 
 module _ (n : Network) (a : ℕ) (k : Kind) (has needs : List Bool) where
-  given-still : (b : ℕ) → given n b ≡ true → given (with_node n a k has needs) b ≡ true
+  given_still : (b : ℕ) → given n b ≡ true → given (with_node n a k has needs) b ≡ true
   unfolding node_at
-  given-still b = go (is_node b)
+  given_still b = go (is_node b)
     where
       go : (t : Bool) → (cond t (get_or n.nodes (b - 1) no_node) no_node).given ≡ true
           → (cond t (get_or (with_node n a k has needs).nodes (b - 1) no_node) no_node).given ≡ true
@@ -71,7 +71,7 @@ module _ (n : Network) (a : ℕ) (k : Kind) (has needs : List Bool) where
         places = all_set IsPlace n.nodes (a - 1) x h.places (record { has = i; needs = j; empty = λ e. never (sym e) });
         routed = λ b d u v e.
             let r = h.routed b d u v e in
-            (nodes_kept n (with_node n a k has needs) given-still b d (route_to n b d) r.0, r.1);
+            (nodes_kept n (with_node n a k has needs) given_still b d (route_to n b d) r.0, r.1);
       }
 
 -- ---- a route more

@@ -13,7 +13,7 @@ use Rattle.model.specs.Row.{held, how_many, are_nodes, users_of, one_more, one_l
 use Rattle.model.specs.State.{load, store}
 use Rattle.model.specs.Requests.{Change, changed}
 use Rattle.model.specs.Noninterference.{rows_naming}
-use Rattle.model.proofs.Parts.{Sized, Whole, Numbered, load_whole, load_stored, load-others, store-sized}
+use Rattle.model.proofs.Parts.{Sized, Whole, Numbered, load_whole, load_stored, load_others, store_sized}
 use Rattle.model.proofs.Users.{many_length, raised_users, lowered_users, fold_length}
 use Rattle.model.proofs.Moves.{Fair}
 
@@ -23,22 +23,22 @@ held_length : (t : Part) → Whole t → length (held t) ≤ 32
 held_length t h = simp length-take (omega (arith, h.rows))
 
 module _ (out : Bool) (a q : ℕ) where
-  naming-most : (s : State) → Sized s → (k n : ℕ) → n + k ≤ 8 → rows_naming out a q s (up_from n k) ≤ 32 * k
+  naming_most : (s : State) → Sized s → (k n : ℕ) → n + k ≤ 8 → rows_naming out a q s (up_from n k) ≤ 32 * k
   unfolding up_from
-  naming-most s hs zero n h = omega arith
-  naming-most s hs (suc k) n h =
+  naming_most s hs zero n h = omega arith
+  naming_most s hs (suc k) n h =
       omega (
         arith,
-        naming-most s hs k (n + 1) (omega arith),
+        naming_most s hs k (n + 1) (omega arith),
         many_length out a q (held (load s (n + 1))),
         held_length (load s (n + 1)) (load_whole s hs (n + 1) (omega arith)),
       )
 
   -- u's rows are among them
-  naming-part : (s : State) (u k n : ℕ) → n < u → u ≤ n + k → how_many out a q (held (load s u)) ≤ rows_naming out a q s (up_from n k)
+  naming_part : (s : State) (u k n : ℕ) → n < u → u ≤ n + k → how_many out a q (held (load s u)) ≤ rows_naming out a q s (up_from n k)
   unfolding up_from
-  naming-part s u zero n h j = absurd (omega arith)
-  naming-part s u (suc k) n h j = go (ℕ_discrete (n + 1) u) (naming-part s u k (n + 1))
+  naming_part s u zero n h j = absurd (omega arith)
+  naming_part s u (suc k) n h j = go (ℕ_discrete (n + 1) u) (naming_part s u k (n + 1))
     where
       go : Dec (n + 1 ≡ u) → (n + 1 < u → u ≤ n + 1 + k → how_many out a q (held (load s u)) ≤ rows_naming out a q s (up_from (n + 1) k))
           → how_many out a q (held (load s u)) ≤ rows_naming out a q s ((n + 1) ∷ up_from (n + 1) k)
@@ -57,16 +57,16 @@ module _ (out : Bool) (a q : ℕ) where
     abbrev Moved : List ℕ → Type 0
     Moved us = rows_naming out a q s' us + how_many out a q (held (load s u)) ≡ rows_naming out a q s us + how_many out a q (held (load s' u))
 
-    pub naming-others : (k n : ℕ) → n + k ≤ 8 → u ≤ n → rows_naming out a q s' (up_from n k) ≡ rows_naming out a q s (up_from n k)
-    naming-others k n h j = naming_same s s' k n (λ v i m. ap held (others v (omega arith) (λ w. omega arith)))
+    pub naming_others : (k n : ℕ) → n + k ≤ 8 → u ≤ n → rows_naming out a q s' (up_from n k) ≡ rows_naming out a q s (up_from n k)
+    naming_others k n h j = naming_same s s' k n (λ v i m. ap held (others v (omega arith) (λ w. omega arith)))
 
-    naming-moved : (k n : ℕ) → n + k ≤ 8 → n < u → u ≤ n + k → Moved (up_from n k)
+    naming_moved : (k n : ℕ) → n + k ≤ 8 → n < u → u ≤ n + k → Moved (up_from n k)
     unfolding up_from
-    naming-moved zero n h j i = absurd (omega arith)
-    naming-moved (suc k) n h j i = go (ℕ_discrete (n + 1) u) (naming-moved k (n + 1) (omega arith))
+    naming_moved zero n h j i = absurd (omega arith)
+    naming_moved (suc k) n h j i = go (ℕ_discrete (n + 1) u) (naming_moved k (n + 1) (omega arith))
       where
         go : Dec (n + 1 ≡ u) → (n + 1 < u → u ≤ n + 1 + k → Moved (up_from (n + 1) k)) → Moved ((n + 1) ∷ up_from (n + 1) k)
-        go (yes e) more = rw e (omega (arith, naming-others k u (omega arith) (omega arith)))
+        go (yes e) more = rw e (omega (arith, naming_others k u (omega arith) (omega arith)))
         go (no e) more = rw (others (n + 1) (omega arith) e) (omega (arith, more (omega arith) (omega arith)))
 
 -- ---- states that are counted
@@ -87,39 +87,39 @@ module _ (s : State) (hs : Sized s) (u : ℕ) (hu : Numbered u) (t : Part) (ht :
 
   pub stored_others : (v : ℕ) → Numbered v → (v ≡ u → ⊥) → load (store (changed s c) u t) v ≡ load s v
   unfolding load changed
-  stored_others v hv ne = load-others (changed s c) (changed_sized s c hs) t ht v u hv hu ne
+  stored_others v hv ne = load_others (changed s c) (changed_sized s c hs) t ht v u hv hu ne
 
 module _ (s : State) (g : Good s) where
   pub users_most : (out : Bool) (a q : ℕ) → are_nodes a q ≡ true → users_of s.users out a q ≤ 256
-  users_most out a q h = omega (arith, g.counted out a q h, naming-most out a q s g.sized 8 0 (omega arith))
+  users_most out a q h = omega (arith, g.counted out a q h, naming_most out a q s g.sized 8 0 (omega arith))
 
   module _ (u : ℕ) (hu : Numbered u) where
-    pub users-least : (out : Bool) (a q : ℕ) → are_nodes a q ≡ true → how_many out a q (held (load s u)) ≤ users_of s.users out a q
-    users-least out a q h = omega (arith, g.counted out a q h, naming-part out a q s u 8 0 (omega (arith, hu)) (omega (arith, hu)))
+    pub users_least : (out : Bool) (a q : ℕ) → are_nodes a q ≡ true → how_many out a q (held (load s u)) ≤ users_of s.users out a q
+    users_least out a q h = omega (arith, g.counted out a q h, naming_part out a q s u 8 0 (omega (arith, hu)) (omega (arith, hu)))
 
     -- the users move as the rows do
-    users-moved : (t : Part) (c : Change) → Fair (load s u) t c → (out : Bool) (a q : ℕ) → are_nodes a q ≡ true
+    users_moved : (t : Part) (c : Change) → Fair (load s u) t c → (out : Bool) (a q : ℕ) → are_nodes a q ≡ true
         → users_of (changed s c).users out a q + how_many out a q (held (load s u)) ≡ users_of s.users out a q + how_many out a q (held t)
     unfolding changed
-    users-moved t c f out a q h =
-        let l = lowered_users out a q h c.went s.users g.sized.users (omega (arith, f.went out a q, users-least out a q h)) in
+    users_moved t c f out a q h =
+        let l = lowered_users out a q h c.went s.users g.sized.users (omega (arith, f.went out a q, users_least out a q h)) in
         let n = fold_length one_less c.went s.users ∙ g.sized.users in
         let r = raised_users out a q h c.came (lowered s.users c.went) n (omega (arith, l, f.came, users_most out a q h)) in
         omega (arith, l, r, f.rows out a q)
 
-    pub stored-good : (t : Part) (c : Change) → Fair (load s u) t c → Good (store (changed s c) u t)
+    pub stored_good : (t : Part) (c : Change) → Fair (load s u) t c → Good (store (changed s c) u t)
     unfolding store
-    stored-good t c f =
+    stored_good t c f =
         let s' = store (changed s c) u t in
         let others = stored_others s g.sized u hu t f.whole c in
         record {
-          sized = store-sized (changed s c) (changed_sized s c g.sized) t f.whole u hu;
+          sized = store_sized (changed s c) (changed_sized s c g.sized) t f.whole u hu;
           counted = λ out a q h.
               omega (
                 arith,
-                users-moved t c f out a q h,
+                users_moved t c f out a q h,
                 g.counted out a q h,
-                naming-moved out a q s s' u others 8 0 (omega arith) (omega (arith, hu)) (omega (arith, hu)),
+                naming_moved out a q s s' u others 8 0 (omega arith) (omega (arith, hu)) (omega (arith, hu)),
                 ap (λ (x : Part). how_many out a q (held x)) (stored_own s g.sized u hu t f.whole c),
               );
         }

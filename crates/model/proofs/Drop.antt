@@ -61,9 +61,9 @@ not_accepted : {A : Type 0} (r : Refusal) → ◌≡◌ {A = Option Refusal} (so
 not_accepted r w = never (ap is_accepted w)
 
 module _ (t : State) (h : Sound t) (u e : ℕ) where
-  asks-drop : Numbered u → (has needs : List Bool) → IfAccepted u e t (requested t has needs (Drop (record { 0 = u }) e))
+  asks_drop : Numbered u → (has needs : List Bool) → IfAccepted u e t (requested t has needs (Drop (record { 0 = u }) e))
   unfolding requested drop_move performed
-  asks-drop hu has needs =
+  asks_drop hu has needs =
       let p = load t u in
       checked_either (λ (m : Move). FairMove p m → IfAccepted u e t (one_answer (performed t u m))) refuse (λ r f w. not_accepted r w) _
       (λ k f w.
@@ -75,12 +75,12 @@ module _ (t : State) (h : Sound t) (u e : ℕ) where
       (fair_own t h.good u hu (Drop (record { 0 = u }) e))
 
   ranged : (b : Bool) → (b ≡ true → Numbered u) → IfAccepted u e t (replied_to t (plain (in_range b (Drop (record { 0 = u }) e))))
-  ranged true i = asks-drop (i refl) _ _
+  ranged true i = asks_drop (i refl) _ _
   ranged false i = λ w. not_accepted _ w
 
-  drop-rows : (c : Call) → read c.line ≡ some (take_down u e) → IfAccepted u e t (call t c)
+  drop_rows : (c : Call) → read c.line ≡ some (take_down u e) → IfAccepted u e t (call t c)
   unfolding answered
-  drop-rows c w =
+  drop_rows c w =
       either (IfAccepted u e t) (ltb c.size 65536) (λ i x. not_accepted _ x)
       (λ i. rw w (ranged (is_session u && is_establishment e) (λ k. numbered u (both (is_session u) (is_establishment e) k).0)))
 
@@ -116,7 +116,7 @@ drops =
           let t' = (call t c).state in
           let hs = reached before in
           let ht = reached_after before cs in
-          let d = drop-rows t ht u e c i a in
+          let d = drop_rows t ht u e c i a in
           let g = grown u e d.numbered cs s hs 2 w in
           let own = d.own ∙ others_gained e (held (load s u)) (held (load t u)) g.own (rows_four (load t u) (ht.sane u d.numbered).roomy e) in
           let kept : Kept s t' = all_kept s t' u own (λ v hv ne. d.others v hv ne ∙ g.others v hv ne) in

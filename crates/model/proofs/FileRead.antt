@@ -70,11 +70,11 @@ module _ (n : Network) (h : Consistent n) (out : List ℕ) (w : 70976 ≤ length
   answers : AnswersText fresh (network_text n) out read
   answers = texts.each fresh (network_text n) out
 
-  answers-width : length (answers_to fresh (lines (network_text n))) ≤ 5440
-  answers-width = rw (text_calls n h, gives_answers (text_gives n h)) (ok_width n h)
+  answers_width : length (answers_to fresh (lines (network_text n))) ≤ 5440
+  answers_width = rw (text_calls n h, gives_answers (text_gives n h)) (ok_width n h)
 
-  written-width : read.written ≤ 5440
-  written-width =
+  written_width : read.written ≤ 5440
+  written_width =
       let a = answers in
       let rest = lines (drop read.read (network_text n) ++ []) in
       let e = ap (λ (t : Total). length t.written) (total_append fresh [] a.answered rest) in
@@ -84,24 +84,24 @@ module _ (n : Network) (h : Consistent n) (out : List ℕ) (w : 70976 ≤ length
         a.written,
         e,
         ap (λ (ls : List (List ℕ)). length (answers_to fresh ls)) f,
-        answers-width,
+        answers_width,
         length-append (answers_to fresh a.answered) (answers_to (after_lines fresh a.answered) rest),
       )
 
-  all-answered : answers.answered ≡ lines (network_text n)
+  all_answered : answers.answered ≡ lines (network_text n)
   unfolding lines
-  all-answered =
+  all_answered =
       let a = answers in
       let ls = lines (network_text n) in
       let rest = lines (drop read.read (network_text n) ++ 0 ∷ []) in
       let e : ls ++ (0 ∷ []) ∷ [] ≡ a.answered ++ rest =
       rw (lines_forms (network_forms n)) (sym (lines_forms_append (network_forms n) (0 ∷ [])) ∙ a.first (0 ∷ [])) in
-      let one = one_line (drop read.read (network_text n)) (a.all (omega (arith, written-width))) in
+      let one = one_line (drop read.read (network_text n)) (a.all (omega (arith, written_width))) in
       let same : length a.answered ≡ length ls = omega (arith, one, ap length e, length-append ls ((0 ∷ []) ∷ []), length-append a.answered rest) in
       sym (take_at a.answered rest (length ls) same) ∙ ap (take (length ls)) (sym e) ∙ take-append_seam ls ((0 ∷ []) ∷ [])
 
-  text-read : read.state ≡ fresh_with n
-  text-read = answers.state ∙ ap (after_lines fresh) all-answered ∙ given_back.again n h
+  text_read : read.state ≡ fresh_with n
+  text_read = answers.state ∙ ap (after_lines fresh) all_answered ∙ given_back.again n h
 
 -- ---- a file
 
@@ -121,7 +121,7 @@ sorted_read : (t out : List ℕ) → 70976 ≤ length out → is_network_text t 
 unfolding is_network_text
 sorted_read t out w e =
     ap (λ (x : List ℕ). (answered_text fresh x out).state.network) (text_equal t (network_text (network_in t)) e)
-    ∙ ap (λ (s : State). s.network) (text-read (network_in t) (in_consistent t) out w)
+    ∙ ap (λ (s : State). s.network) (text_read (network_in t) (in_consistent t) out w)
 
 -- the network n that was read from the file t: it is the file's, if that is the text of one
 pub record FileGives (t : List ℕ) (n : Network) : Type 0 where

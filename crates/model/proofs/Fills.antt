@@ -22,7 +22,7 @@ use Rattle.model.specs.State.{fresh}
 use Rattle.model.specs.GivenBack.{IsPlace, Passes, Consistent, fresh_with}
 use Rattle.model.proofs.Lists.{all_at}
 use Rattle.model.proofs.Nodes.{Node}
-use Rattle.model.proofs.Gives.{ok, node_ok, route_ok, Gives, none_left, one_more, gives_append, table-gives}
+use Rattle.model.proofs.Gives.{ok, node_ok, route_ok, Gives, none_left, one_more, gives_append, table_gives}
 
 -- ---- the nodes
 
@@ -35,9 +35,9 @@ module _ (n : Network) (h : Consistent n) where
   abbrev with_nodes : List declared.Node → State
   with_nodes l = fresh_with (record { nodes = l; routes = replicate 1056 0 })
 
-  node-fills : (p : List declared.Node) (x : declared.Node) (r l : List declared.Node) → n.nodes ≡ p ++ x ∷ l
+  node_fills : (p : List declared.Node) (x : declared.Node) (r l : List declared.Node) → n.nodes ≡ p ++ x ∷ l
       → Gives (with_nodes (p ++ no_node ∷ r)) (node_form (1 + length p) x) (with_nodes (p ++ x ∷ r))
-  node-fills p x r l w = go x.given refl
+  node_fills p x r l w = go x.given refl
     where
       place : IsPlace x
       place = all_at IsPlace p x l (subst (All IsPlace) w h.places)
@@ -64,8 +64,8 @@ module _ (n : Network) (h : Consistent n) where
 
   -- ---- the routes
 
-  abbrev withRoutes : List ℕ → State
-  withRoutes l = fresh_with (record { nodes = n.nodes; routes = l })
+  abbrev with_routes : List ℕ → State
+  with_routes l = fresh_with (record { nodes = n.nodes; routes = l })
 
   -- the route at a place is one that is accepted
   pub place_routed : (p next : ℕ) → p < 1056 → get_or n.routes p 0 ≡ next → ltb 0 next ≡ true → Passes n (place_at p) (place_destination p) next
@@ -76,12 +76,12 @@ module _ (n : Network) (h : Consistent n) where
       let for = bounds_within 0 32 (place_destination p) (omega arith) (omega arith) in
       rw stored at (h.routed (place_at p) (place_destination p) at for (rw stored some))
 
-  route-fills : (p : List ℕ) (next : ℕ) (r l : List ℕ) → n.routes ≡ p ++ next ∷ l
-      → Gives (withRoutes (p ++ 0 ∷ r)) (route_form (0 + length p) next) (withRoutes (p ++ next ∷ r))
+  route_fills : (p : List ℕ) (next : ℕ) (r l : List ℕ) → n.routes ≡ p ++ next ∷ l
+      → Gives (with_routes (p ++ 0 ∷ r)) (route_form (0 + length p) next) (with_routes (p ++ next ∷ r))
   unfolding node_at
-  route-fills p next r l w = go (way (ltb 0 next))
+  route_fills p next r l w = go (way (ltb 0 next))
     where
-      go : Way (ltb 0 next) → Gives (withRoutes (p ++ 0 ∷ r)) (route_form (0 + length p) next) (withRoutes (p ++ next ∷ r))
+      go : Way (ltb 0 next) → Gives (with_routes (p ++ 0 ∷ r)) (route_form (0 + length p) next) (with_routes (p ++ next ∷ r))
       go (isnt e) =
           let z : next ≡ 0 = omega (arith, ltb-false 0 next e) in
           rw (e, z) none_left
@@ -97,13 +97,13 @@ module _ (n : Network) (h : Consistent n) where
           rw e
           (one_more
           (route_ok m a b next (place_routed k next few stored e) free
-          ∙ ap (λ (t : List ℕ). ok (withRoutes t)) (ap (λ (q : ℕ). set (p ++ 0 ∷ r) q next) place ∙ set_at p 0 r next k (omega arith)))
+          ∙ ap (λ (t : List ℕ). ok (with_routes t)) (ap (λ (q : ℕ). set (p ++ 0 ∷ r) q next) place ∙ set_at p 0 r next k (omega arith)))
           none_left)
 
   -- ---- both
 
   pub text_gives : Gives fresh (network_forms n) (fresh_with n)
   text_gives =
-      let nodes = table-gives with_nodes no_node node_form 1 n.nodes node-fills [] n.nodes refl in
-      let routes = table-gives withRoutes 0 route_form 0 n.routes route-fills [] n.routes refl in
+      let nodes = table_gives with_nodes no_node node_form 1 n.nodes node_fills [] n.nodes refl in
+      let routes = table_gives with_routes 0 route_form 0 n.routes route_fills [] n.routes refl in
       gives_append (rw h.nodes at nodes) (rw h.routes at routes)

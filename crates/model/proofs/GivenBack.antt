@@ -58,23 +58,23 @@ module _ (n : Network) (h : Consistent n) where
   pub text_calls : map roomy_call (lines (network_text n)) ≡ map line_of (network_forms n)
   text_calls = ap (map roomy_call) (lines_forms (network_forms n)) ∙ map-map roomy_call text (network_forms n)
 
-  text-again : after_lines fresh (lines (network_text n)) ≡ fresh_with n
-  text-again = rw text_calls (gives_after (text_gives n h))
+  text_again : after_lines fresh (lines (network_text n)) ≡ fresh_with n
+  text_again = rw text_calls (gives_after (text_gives n h))
 
-  text-accepted : All AnsweredOk (replies fresh (map roomy_call (lines (network_text n))))
-  text-accepted = rw text_calls (gives_ok (text_gives n h))
+  text_accepted : All AnsweredOk (replies fresh (map roomy_call (lines (network_text n))))
+  text_accepted = rw text_calls (gives_ok (text_gives n h))
 
   -- ---- how long it is
 
-  node-most : (j : ℕ) → length (joined (map form_line (node_form (1 + j) (get_or n.nodes j no_node)))) ≤ node_most (1 + j)
-  node-most j =
+  node_most_lem : (j : ℕ) → length (joined (map form_line (node_form (1 + j) (get_or n.nodes j no_node)))) ≤ node_most (1 + j)
+  node_most_lem j =
       let x = get_or n.nodes j no_node in
       let g = place_is n h j in
       only_width form_line (node_most (1 + j)) x.given (node_of (1 + j) x.kind x.has x.needs)
       (λ e. simp length-append (omega (arith, node_width (1 + j) x.kind x.has x.needs g.has g.needs)))
 
-  route-most : (p : ℕ) → p < 1056 → length (joined (map form_line (route_form p (get_or n.routes p 0)))) ≤ route_most p
-  route-most p w =
+  route_most_lem : (p : ℕ) → p < 1056 → length (joined (map form_line (route_form p (get_or n.routes p 0)))) ≤ route_most p
+  route_most_lem p w =
       let a = place_at p in
       let b = place_destination p in
       let next = get_or n.routes p 0 in
@@ -85,12 +85,12 @@ module _ (n : Network) (h : Consistent n) where
       let by = within_bounds 1 32 next (nodes_range n a b next r.0).by in
       rw apart (simp length-append (omega (arith, route_width a b next, width_most 1 next (omega arith)))))
 
-  text-width : length (network_text n) ≤ 29376
-  text-width =
+  text_width : length (network_text n) ≤ 29376
+  text_width =
       let fs = entries_from node_form 1 n.nodes in
       let gs = entries_from route_form 0 n.routes in
-      let nodes = rw h.nodes at (entries_width form_line node_most node_form 1 n.nodes no_node (λ j w. node-most j)) in
-      let routes = rw h.routes at (entries_width form_line route_most route_form 0 n.routes 0 (λ p w. rw (zero-add p) (route-most p (omega arith)))) in
+      let nodes = rw h.nodes at (entries_width form_line node_most node_form 1 n.nodes no_node (λ j w. node_most_lem j)) in
+      let routes = rw h.routes at (entries_width form_line route_most route_form 0 n.routes 0 (λ p w. rw (zero-add p) (route_most_lem p (omega arith)))) in
       rw (lines_append form_line fs gs, length-append (joined (map form_line fs)) (joined (map form_line gs)))
       (omega (arith, nodes, routes, nodes_most, routes_most))
 
@@ -105,7 +105,7 @@ net_written s size = rw net_read
 text_same : (n m : Network) → Consistent n → Consistent m → network_text n ≡ network_text m → n ≡ m
 text_same n m h k e =
     ap (λ (s : State). s.network)
-    (sym (text-again n h) ∙ ap (λ (t : List ℕ). after_lines fresh (lines t)) e ∙ text-again m k)
+    (sym (text_again n h) ∙ ap (λ (t : List ℕ). after_lines fresh (lines t)) e ∙ text_again m k)
 
 pub given_back : GivenBack
 given_back =
@@ -113,8 +113,8 @@ given_back =
       written = net_written;
       ordered = text_ordered;
       consistent = λ cs. (reached cs).consistent;
-      again = text-again;
-      accepts = text-accepted;
+      again = text_again;
+      accepts = text_accepted;
       equal = λ n m h k. (ap network_text, text_same n m h k);
-      fits = text-width;
+      fits = text_width;
     }

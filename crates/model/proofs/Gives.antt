@@ -93,10 +93,10 @@ module _ {A : Type 0} (holding : List A → State) (blank : A) (form : ℕ → A
     (fills : (p : List A) (x : A) (r l : List A) → all ≡ p ++ x ∷ l
     → Gives (holding (p ++ blank ∷ r)) (form (k + length p) x) (holding (p ++ x ∷ r)))
   where
-    pub table-gives : (p l : List A) → all ≡ p ++ l
+    pub table_gives : (p l : List A) → all ≡ p ++ l
         → Gives (holding (p ++ replicate (length l) blank)) (entries_from form (k + length p) l) (holding (p ++ l))
     unfolding entries_from
-    table-gives p [] w = none_left
-    table-gives p (x ∷ l) w =
-        let more = table-gives (p ++ (x ∷ [])) l (w ∙ sym (append_snoc p x l)) in
+    table_gives p [] w = none_left
+    table_gives p (x ∷ l) w =
+        let more = table_gives (p ++ (x ∷ [])) l (w ∙ sym (append_snoc p x l)) in
         gives_append (fills p x (replicate (length l) blank) l w) (simp (append_snoc, next_place) at more)

@@ -85,30 +85,30 @@ module _ (t : Part) (h : Sane t) (n : Network) (standing : ℕ → ℕ → Bool)
   no_row t' i k w = w ∙ rw (none_added (rule n standing t i).added k) (append-nil (held t))
 
   -- what the rule of the item i adds stands behind what stood
-  item-rows : (t' : Part) (i : Item) → length (added_rows (rule n standing t i).added) ≤ 2 * count is_grant i
+  item_rows : (t' : Part) (i : Item) → length (added_rows (rule n standing t i).added) ≤ 2 * count is_grant i
       → held t' ≡ held t ++ added_rows (rule n standing t i).added → RowsBy u t t' (step_events u i)
   unfolding rule
-  item-rows t' Free k w = no_row t' Free k w
-  item-rows t' (Wire a p) k w = no_row t' (Wire a p) k w
-  item-rows t' (Out a p) k w = no_row t' (Out a p) k w
-  item-rows t' (Up a p) k w = no_row t' (Up a p) k w
-  item-rows t' (Est a b e) k w = no_row t' (Est a b e) k w
-  item-rows t' (Auth a q e side) k w = no_row t' (Auth a q e side) k w
-  item-rows t' (Grant a q e side) k w =
+  item_rows t' Free k w = no_row t' Free k w
+  item_rows t' (Wire a p) k w = no_row t' (Wire a p) k w
+  item_rows t' (Out a p) k w = no_row t' (Out a p) k w
+  item_rows t' (Up a p) k w = no_row t' (Up a p) k w
+  item_rows t' (Est a b e) k w = no_row t' (Est a b e) k w
+  item_rows t' (Auth a q e side) k w = no_row t' (Auth a q e side) k w
+  item_rows t' (Grant a q e side) k w =
       let g = grant_added t.session a q e side in
       (refl, record { added = added_rows (grant_rule t.session a q e side).added; of_it = g.0; same = w; many = g.1 })
-  item-rows t' (Ack a e) k w = no_row t' (Ack a e) k w
-  item-rows t' (Dwait a) k w = no_row t' (Dwait a) k w
-  item-rows t' (Ewait a e) k w = no_row t' (Ewait a e) k w
+  item_rows t' (Ack a e) k w = no_row t' (Ack a e) k w
+  item_rows t' (Dwait a) k w = no_row t' (Dwait a) k w
+  item_rows t' (Ewait a e) k w = no_row t' (Ewait a e) k w
 
-  step-rows : (k : ℕ) → MoveRows u t (step_move n standing k t) (step_events u (item_at t.items (place (is_numbered k) t.items)))
+  step_rows : (k : ℕ) → MoveRows u t (step_move n standing k t) (step_events u (item_at t.items (place (is_numbered k) t.items)))
   unfolding step_move step_at stepped
-  step-rows k =
+  step_rows k =
       let at = place (is_numbered k) t.items in
       let i = item_at t.items at in
       checked_either (λ (m : Move). MoveRows u t m (step_events u i)) refuse (λ r. tt) _
       (λ e.
-      item-rows (applied t at (rule n standing t i)) i (rule_law n standing t i).adds
+      item_rows (applied t at (rule n standing t i)) i (rule_law n standing t i).adds
       (step_finds_places t h.roomy n standing at (leb-false 16 at e.1.0) e.1.1.0).rows)
 
 -- ---- the rows that a call leaves
@@ -142,54 +142,54 @@ module _ (s : State) (h : Sound s) where
   Replied l x = Leaves s x.state (cond (is_accepted x.refusal) l [])
 
   module _ (u : ℕ) (hu : Numbered u) where
-    own-rows : (q : request.Request) → session_in q ≡ u → MoveRows u (load s u) (move_in s u q) (request_events s q)
+    own_rows : (q : request.Request) → session_in q ≡ u → MoveRows u (load s u) (move_in s u q) (request_events s q)
     unfolding open_move opening send_move sending close_move drop_move
-    own-rows (Node a k) w = tt
-    own-rows (Route a b n) w = tt
-    own-rows (Open v c d) w = checked_either (λ (m : Move). MoveRows u (load s u) m []) refuse (λ r. tt) _ (λ e. refl)
-    own-rows (Step v k) w = rw w (step-rows (load s u) (h.sane u hu) s.network (stands s.users false) u k.0)
-    own-rows (Send v x tag) w = checked_either (λ (m : Move). MoveRows u (load s u) m []) refuse (λ r. tt) _ (λ e. refl)
-    own-rows (Close v) w = checked_either (λ (m : Move). MoveRows u (load s u) m (removed ∷ [])) refuse (λ r. tt) _ (λ e. tt)
-    own-rows Show w = tt
-    own-rows Net w = tt
-    own-rows (Drop v f) w = checked_either (λ (m : Move). MoveRows u (load s u) m (removed ∷ [])) refuse (λ r. tt) _ (λ e. tt)
+    own_rows (Node a k) w = tt
+    own_rows (Route a b n) w = tt
+    own_rows (Open v c d) w = checked_either (λ (m : Move). MoveRows u (load s u) m []) refuse (λ r. tt) _ (λ e. refl)
+    own_rows (Step v k) w = rw w (step_rows (load s u) (h.sane u hu) s.network (stands s.users false) u k.0)
+    own_rows (Send v x tag) w = checked_either (λ (m : Move). MoveRows u (load s u) m []) refuse (λ r. tt) _ (λ e. refl)
+    own_rows (Close v) w = checked_either (λ (m : Move). MoveRows u (load s u) m (removed ∷ [])) refuse (λ r. tt) _ (λ e. tt)
+    own_rows Show w = tt
+    own_rows Net w = tt
+    own_rows (Drop v f) w = checked_either (λ (m : Move). MoveRows u (load s u) m (removed ∷ [])) refuse (λ r. tt) _ (λ e. tt)
 
-    moved-rows : (s' : State) (t' : Part) → load s' u ≡ t' → ((v : ℕ) → Numbered v → (v ≡ u → ⊥) → load s' v ≡ load s v)
+    moved_rows : (s' : State) (t' : Part) → load s' u ≡ t' → ((v : ℕ) → Numbered v → (v ≡ u → ⊥) → load s' v ≡ load s v)
         → (l : List Event) → RowsBy u (load s u) t' l → Leaves s s' l
-    moved-rows s' t' e others [] k = all_kept s s' u (rw e k) (λ v hv ne. ap held (others v hv ne))
-    moved-rows s' t' e others (granted v f ∷ []) k =
+    moved_rows s' t' e others [] k = all_kept s s' u (rw e k) (λ v hv ne. ap held (others v hv ne))
+    moved_rows s' t' e others (granted v f ∷ []) k =
         rw k.0 (record { others = λ x hx ne. ap held (others x hx ne); own = rw e k.1 })
-    moved-rows s' t' e others (granted v f ∷ (x ∷ l)) k = k
-    moved-rows s' t' e others (removed ∷ l) k = tt
+    moved_rows s' t' e others (granted v f ∷ (x ∷ l)) k = k
+    moved_rows s' t' e others (removed ∷ l) k = tt
 
-    performed-rows : (m : Move) → FairMove (load s u) m → Answers m → (l : List Event) → MoveRows u (load s u) m l → Replied l (one_answer (performed s u m))
+    performed_rows : (m : Move) → FairMove (load s u) m → Answers m → (l : List Event) → MoveRows u (load s u) m l → Replied l (one_answer (performed s u m))
     unfolding performed
-    performed-rows (refuse r) f w l k = λ v hv. refl
-    performed-rows (moved a t c) f w l k =
+    performed_rows (refuse r) f w l k = λ v hv. refl
+    performed_rows (moved a t c) f w l k =
         rw w
-        (moved-rows (store (changed s c) u t) t (stored_own s h.good.sized u hu t f.whole c) (stored_others s h.good.sized u hu t f.whole c) l k)
+        (moved_rows (store (changed s c) u t) t (stored_own s h.good.sized u hu t f.whole c) (stored_others s h.good.sized u hu t f.whole c) l k)
 
-  asked-rows : (o : Option Form) (r : Reading) → Meaning o r → Replied (line_events s r.parsed) (replied_to s r)
+  asked_rows : (o : Option Form) (r : Reading) → Meaning o r → Replied (line_events s r.parsed) (replied_to s r)
   unfolding requested node_turn route_turn load
-  asked-rows o r (refuses x w) = λ v hv. refl
-  asked-rows o r (gives_node a k has needs i j n) =
+  asked_rows o r (refuses x w) = λ v hv. refl
+  asked_rows o r (gives_node a k has needs i j n) =
       checked_either (λ (t : Turn). Replied [] (one_answer t)) (refused s) (λ x v hv. refl) _ (λ e v hv. refl)
-  asked-rows o r (gives_route a b next n) =
+  asked_rows o r (gives_route a b next n) =
       checked_either (λ (t : Turn). Replied [] (one_answer t)) (refused s) (λ x v hv. refl) _ (λ e v hv. refl)
-  asked-rows o r (of_session q i k) =
+  asked_rows o r (of_session q i k) =
       let u = session_in q in
       let hu = numbered u i in
       subst (Replied (request_events s q)) (sym (requested_own s _ _ q i))
-      (performed-rows u hu (move_in s u q) (fair_own s h.good u hu q) (move_answers s.network (stands s.users false) q (load s u)) (request_events s q)
-      (own-rows u hu q refl))
-  asked-rows o r (shows k) = λ v hv. refl
-  asked-rows o r (gives_back k) = λ v hv. refl
+      (performed_rows u hu (move_in s u q) (fair_own s h.good u hu q) (move_answers s.network (stands s.users false) q (load s u)) (request_events s q)
+      (own_rows u hu q refl))
+  asked_rows o r (shows k) = λ v hv. refl
+  asked_rows o r (gives_back k) = λ v hv. refl
 
   call_rows : (c : Call) → Leaves s (call s c).state (call_events s c)
   unfolding answered
   call_rows c =
       let r = asked (read c.line) in
-      either (Replied (line_events s r.parsed)) (ltb c.size 65536) (λ e v hv. refl) (λ e. asked-rows (read c.line) r (meaning (read c.line)))
+      either (Replied (line_events s r.parsed)) (ltb c.size 65536) (λ e v hv. refl) (λ e. asked_rows (read c.line) r (meaning (read c.line)))
 
 -- ---- the rows that a list of calls leaves
 

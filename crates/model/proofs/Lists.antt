@@ -99,10 +99,10 @@ all_those P f (x ∷ l) h =
     either (All P) (f x) (λ e. (h.0, k)) (λ e. k)
 
 module _ {A : Type 0} (f : A → Bool) where
-  those-length : (l : List A) → length (those f l) ≤ length l
-  those-length [] = omega arith
-  those-length (x ∷ l) =
-      let k = those-length l in
+  those_length : (l : List A) → length (those f l) ≤ length l
+  those_length [] = omega arith
+  those_length (x ∷ l) =
+      let k = those_length l in
       either (λ (m : List A). length m ≤ suc (length l)) (f x) (λ e. omega arith) (λ e. omega arith)
 
   pub those_append : (l m : List A) → those f (l ++ m) ≡ those f l ++ those f m
@@ -181,4 +181,4 @@ pub take_those : {A : Type 0} (f : A → Bool) (n : ℕ) (l : List A)
     take (length m) (sets l 0 m) ≡ m
 take_those f n l =
     let m = those f (take n l) in
-    rw zero-add at (take_sets l m 0 (omega (arith, those-length f (take n l), length-take n l)))
+    rw zero-add at (take_sets l m 0 (omega (arith, those_length f (take n l), length-take n l)))

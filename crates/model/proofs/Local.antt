@@ -35,7 +35,7 @@ use Rattle.model.proofs.Parts.{Numbered, load_whole}
 use Rattle.model.proofs.Users.{admits_some}
 use Rattle.model.proofs.Moves.{FairMove, fair_open, fair_step, fair_send, fair_close, fair_drop}
 use Rattle.model.proofs.Asked.{session_in, own_move, own_cases, move_in, requested_own, not_own, Meaning, refuses, gives_node, gives_route, of_session, shows, gives_back, meaning}
-use Rattle.model.proofs.Counted.{Good, users-least, stored_own, stored_others, stored-good}
+use Rattle.model.proofs.Counted.{Good, users_least, stored_own, stored_others, stored_good}
 
 -- ---- what stands
 
@@ -49,30 +49,30 @@ and_same false false b h = refl
 
 -- where an in row of this part tells that its association stands, no rule reads what stands
 module _ (n : Network) (standing : ℕ → ℕ → Bool) (t : Part) (h : (a q : ℕ) → admits (held t) a q ≡ true → standing a q ≡ are_nodes a q) where
-  admitted-same : (a : ℕ) (x : Header) → admitted standing (held t) a x ≡ admitted are_nodes (held t) a x
-  admitted-same a x =
+  admitted_same : (a : ℕ) (x : Header) → admitted standing (held t) a x ≡ admitted are_nodes (held t) a x
+  admitted_same a x =
       let q = x.from in
       ap (λ (y : Bool). is_bare x || y) (and_same (standing a q) (are_nodes a q) (admits (held t) a q) (h a q))
 
-  rule-same : (i : Item) → rule n standing t i ≡ rule n are_nodes t i
+  rule_same : (i : Item) → rule n standing t i ≡ rule n are_nodes t i
   unfolding rule up_rule
-  rule-same Free = refl
-  rule-same (Wire a p) = refl
-  rule-same (Out a p) = refl
-  rule-same (Up a p) = rw (admitted-same a p.header)
-  rule-same (Est a b e) = refl
-  rule-same (Auth a q e s) = refl
-  rule-same (Grant a q e s) = refl
-  rule-same (Ack a e) = refl
-  rule-same (Dwait a) = refl
-  rule-same (Ewait a e) = refl
+  rule_same Free = refl
+  rule_same (Wire a p) = refl
+  rule_same (Out a p) = refl
+  rule_same (Up a p) = rw (admitted_same a p.header)
+  rule_same (Est a b e) = refl
+  rule_same (Auth a q e s) = refl
+  rule_same (Grant a q e s) = refl
+  rule_same (Ack a e) = refl
+  rule_same (Dwait a) = refl
+  rule_same (Ewait a e) = refl
 
   move_same : (q : request.Request) → own_move n standing q t ≡ own_move n are_nodes q t
   unfolding step_move step_at
   move_same (Node a k) = refl
   move_same (Route a b next) = refl
   move_same (Open u c d) = refl
-  move_same (Step u k) = simp rule-same
+  move_same (Step u k) = simp rule_same
   move_same (Send u w tag) = refl
   move_same (Close u) = refl
   move_same Show = refl
@@ -86,7 +86,7 @@ unfolding users_of
 in_row_stands s g u hu a q e = go (are_nodes a q) refl
   where
     go : (b : Bool) → are_nodes a q ≡ b → stands s.users false a q ≡ b
-    go true h = lt-ltb 0 (users_of s.users false a q) (omega (arith, admits_some a q (held (load s u)) e, users-least s g u hu false a q h))
+    go true h = lt-ltb 0 (users_of s.users false a q) (omega (arith, admits_some a q (held (load s u)) e, users_least s g u hu false a q h))
     go false h = rw h
 
 pub fair_own : (s : State) → Good s → (u : ℕ) → Numbered u → (q : request.Request) → FairMove (load s u) (move_in s u q)
@@ -140,24 +140,24 @@ module _ (s : State) (g : Good s) (u : ℕ) (hu : Numbered u) where
   pub performed_good : (m : Move) → FairMove (load s u) m → Good (performed s u m).state
   unfolding performed
   performed_good (refuse r) f = g
-  performed_good (moved a t c) f = stored-good s g u hu t c f
+  performed_good (moved a t c) f = stored_good s g u hu t c f
 
-  own-seen : (q : request.Request) → seen u (one_answer (performed s u (move_in s u q))) ≡ seen_move (load s u) (own_move s.network are_nodes q (load s u))
-  own-seen q =
+  own_seen : (q : request.Request) → seen u (one_answer (performed s u (move_in s u q))) ≡ seen_move (load s u) (own_move s.network are_nodes q (load s u))
+  own_seen q =
       performed_own (move_in s u q) (fair_own s g u hu q)
       ∙ ap (seen_move (load s u)) (move_same s.network (stands s.users false) (load s u) (in_row_stands s g u hu) q)
 
   -- the reply to what is u's own
-  asked-seen : (o : Option Form) → form_names u o ≡ true → (r : Reading) → Meaning o r
+  asked_seen : (o : Option Form) → form_names u o ≡ true → (r : Reading) → Meaning o r
       → seen u (replied_to s r) ≡ seen_parsed s.network (load s u) r.parsed
-  asked-seen o e r (refuses x w) = refl
-  asked-seen o e r (gives_node a k has needs i j n) = never (sym (not_own u o n) ∙ e)
-  asked-seen o e r (gives_route a b next n) = never (sym (not_own u o n) ∙ e)
-  asked-seen o e r (of_session q i h) =
+  asked_seen o e r (refuses x w) = refl
+  asked_seen o e r (gives_node a k has needs i j n) = never (sym (not_own u o n) ∙ e)
+  asked_seen o e r (gives_route a b next n) = never (sym (not_own u o n) ∙ e)
+  asked_seen o e r (of_session q i h) =
       let w : session_in q ≡ u = eqb-true (session_in q) u (sym (h u) ∙ e) in
-      ap (seen u) (requested_own s _ _ q i ∙ ap (λ (v : ℕ). one_answer (performed s v (move_in s v q))) w) ∙ own-seen q
-  asked-seen o e r (shows h) = never (sym (h u) ∙ e)
-  asked-seen o e r (gives_back h) = never (sym (h u) ∙ e)
+      ap (seen u) (requested_own s _ _ q i ∙ ap (λ (v : ℕ). one_answer (performed s v (move_in s v q))) w) ∙ own_seen q
+  asked_seen o e r (shows h) = never (sym (h u) ∙ e)
+  asked_seen o e r (gives_back h) = never (sym (h u) ∙ e)
 
   pub call_own : (c : Call) → is_own u c ≡ true → seen u (call s c) ≡ local s.network (load s u) c
   unfolding answered local
@@ -166,4 +166,4 @@ module _ (s : State) (g : Good s) (u : ℕ) (hu : Numbered u) where
       go : (b : Bool) → seen u (cond b (short s) (replied_to s (asked (read c.line))))
           ≡ cond b (seen u (short s)) (seen_parsed s.network (load s u) (asked (read c.line)).parsed)
       go true = refl
-      go false = asked-seen (read c.line) e (asked (read c.line)) (meaning (read c.line))
+      go false = asked_seen (read c.line) e (asked (read c.line)) (meaning (read c.line))

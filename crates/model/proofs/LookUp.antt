@@ -1,4 +1,4 @@
--- An accepted route call changes the look_up where it should, and nowhere else. Assumes nothing.
+-- An accepted route call changes the look-up where it should, and nowhere else. Assumes nothing.
 use mathlib.Core.Path.{◌≡◌, refl, sym, ◌∙◌}
 use mathlib.Core.Bool.{Bool, true, false, cond, and-false, ◌&&◌}
 use Prim.Native.Nat.{ℕ}
@@ -21,7 +21,7 @@ use Rattle.model.proofs.Checks.{checked_either}
 use Rattle.model.proofs.Nodes.{Node, node_destination, InRange, nodes_range}
 use Rattle.model.proofs.Consistent.{route_fresh, route_set}
 
--- ---- one look_up
+-- ---- one look-up
 
 hop_between : (n : Network) (x y : ℕ) → Node x → Node y → next_hop n x y ≡ hop (route_to n x y) (route_to n x 0)
 unfolding next_hop

@@ -16,12 +16,12 @@ module _ (out : Bool) (a : ℕ) (p : Packet) where
     abbrev OfPeers : Peers → Type 0
     OfPeers x = (x.first ≡ 0 → ⊥) → R x.first
 
-    of-newer : (best : Peers) (rows : List Row) → All (λ r. fits out a p r ≡ true → R r.peers.first) rows → OfPeers best → OfPeers (fold (newer out a p) best rows)
-    of-newer best [] h k = k
-    of-newer best (r ∷ rows) h k = of-newer (newer out a p best r) rows h.1 (either OfPeers (fits out a p r) (λ e n. h.0 e) (λ e. k))
+    of_newer : (best : Peers) (rows : List Row) → All (λ r. fits out a p r ≡ true → R r.peers.first) rows → OfPeers best → OfPeers (fold (newer out a p) best rows)
+    of_newer best [] h k = k
+    of_newer best (r ∷ rows) h k = of_newer (newer out a p best r) rows h.1 (either OfPeers (fits out a p r) (λ e n. h.0 e) (λ e. k))
 
-    pub of-newest : (rows : List Row) → All (λ r. fits out a p r ≡ true → R r.peers.first) rows → OfPeers (newest rows out a p)
-    of-newest rows h = of-newer no_peers rows h (λ n. absurd (n refl))
+    pub of_newest : (rows : List Row) → All (λ r. fits out a p r ≡ true → R r.peers.first) rows → OfPeers (newest rows out a p)
+    of_newest rows h = of_newer no_peers rows h (λ n. absurd (n refl))
 
   pub none_newest : (rows : List Row) → All (λ r. fits out a p r ≡ false) rows → newest rows out a p ≡ no_peers
   none_newest rows h = go no_peers rows h

@@ -88,9 +88,9 @@ FairMove t (refuse r) = Unit
 FairMove t (moved a t' c) = Fair t t' c
 
 module _ (t : Part) (h : Whole t) where
-  fair-stepped : unused t ≡ false → (at : ℕ) (f : Effect) → FairMove t (stepped t at f)
+  fair_stepped : unused t ≡ false → (at : ℕ) (f : Effect) → FairMove t (stepped t at f)
   unfolding stepped how_many
-  fair-stepped u at f =
+  fair_stepped u at f =
       record {
         whole = applied_whole t h at f;
         rows = λ out a q. rw (held_applied t h at f) (omega (arith, many_append out a q (held t) (placed t.session.rows f.added)));
@@ -101,11 +101,11 @@ module _ (t : Part) (h : Whole t) where
 
   pub fair_step : (n : Network) (standing : ℕ → ℕ → Bool) (k : ℕ) → FairMove t (step_move n standing k t)
   unfolding step_move step_at
-  fair_step n standing k = checked_either (FairMove t) refuse (λ r. tt) _ (λ e. fair-stepped e.0 _ _)
+  fair_step n standing k = checked_either (FairMove t) refuse (λ r. tt) _ (λ e. fair_stepped e.0 _ _)
 
-  fair-item : (g : Stage) (c d : ℕ) (i : Item) (opens : Bool) → (opens ≡ false → unused t ≡ false) → Fair t (with_item t g c d i) (no_rows opens)
+  fair_item : (g : Stage) (c d : ℕ) (i : Item) (opens : Bool) → (opens ≡ false → unused t ≡ false) → Fair t (with_item t g c d i) (no_rows opens)
   unfolding how_many
-  fair-item g c d i opens u =
+  fair_item g c d i opens u =
       record {
         whole = omega (arith, h, length_put t.items (next_number t) i);
         rows = λ out a q. omega arith;
@@ -116,11 +116,11 @@ module _ (t : Part) (h : Whole t) where
 
   pub fair_open : (n : Network) (c d : ℕ) → FairMove t (open_move n c d t)
   unfolding open_move opening
-  fair_open n c d = checked_either (FairMove t) refuse (λ r. tt) _ (λ e. fair-item _ _ _ _ _ (λ o. never (sym o)))
+  fair_open n c d = checked_either (FairMove t) refuse (λ r. tt) _ (λ e. fair_item _ _ _ _ _ (λ o. never (sym o)))
 
   pub fair_send : (w : Sender) (tag : ℕ) → FairMove t (send_move w tag t)
   unfolding send_move sending
-  fair_send w tag = checked_either (FairMove t) refuse (λ r. tt) _ (λ e. fair-item _ _ _ _ _ (λ o. e.0))
+  fair_send w tag = checked_either (FairMove t) refuse (λ r. tt) _ (λ e. fair_item _ _ _ _ _ (λ o. e.0))
 
   pub fair_close : FairMove t (close_move t)
   unfolding close_move closing

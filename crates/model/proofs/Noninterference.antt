@@ -17,7 +17,7 @@ use Rattle.model.specs.Noninterference.{view_of, Noninterferes, Noninterference}
 use Rattle.model.proofs.Parts.{Numbered}
 use Rattle.model.proofs.Asked.{not_own}
 use Rattle.model.proofs.Places.{same_itself, are_nodes_lem}
-use Rattle.model.proofs.Counted.{Good, users-least}
+use Rattle.model.proofs.Counted.{Good, users_least}
 use Rattle.model.proofs.Replies.{numbered, call_good, call_others}
 use Rattle.model.proofs.Named.{RowNamed}
 use Rattle.model.proofs.Fresh.{load_fresh, fresh_good}
@@ -61,7 +61,7 @@ module _ (ns cs : List Call) (hn : All (λ c. gives_network c ≡ true) ns) (hc 
         answers = a.answers;
         seen = ap view_of a.part;
         numbers = a.numbers unwritten;
-        standing = all_stand end.users (held (load end u)) (users-least end h.good u hu) (h.sane u hu).rows;
+        standing = all_stand end.users (held (load end u)) (users_least end h.good u hu) (h.sane u hu).rows;
         users = λ out a q ha hq. h.good.counted out a q (are_nodes_lem a q ha hq);
       }
 

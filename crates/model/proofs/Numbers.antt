@@ -53,25 +53,25 @@ answer_numbers n Opened = refl
 answer_numbers n (Delivered tag) = refl
 
 module _ (t : Part) where
-  step-issues : (at : ℕ) (f : Effect) → IssuesMove t (stepped t at f)
+  step_issues : (at : ℕ) (f : Effect) → IssuesMove t (stepped t at f)
   unfolding stepped applied session_after
-  step-issues at f = record { many = written_count f.outcome; last = refl; carried = answer_numbers t.session.last.0 f.outcome }
+  step_issues at f = record { many = written_count f.outcome; last = refl; carried = answer_numbers t.session.last.0 f.outcome }
 
-  move-issues : (n : Network) (q : request.Request) → IssuesMove t (own_move n are_nodes q t)
+  move_issues : (n : Network) (q : request.Request) → IssuesMove t (own_move n are_nodes q t)
   unfolding open_move opening step_move step_at send_move sending close_move closing drop_move dropping up_from
-  move-issues n q =
+  move_issues n q =
       own_cases (IssuesMove t) n are_nodes q t (issued_none t)
       (λ c d. checked_either (IssuesMove t) refuse (λ r. issued_none t) _ (λ e. record { many = 1; last = refl; carried = refl }))
-      (λ k. checked_either (IssuesMove t) refuse (λ r. issued_none t) _ (λ e. step-issues _ _))
+      (λ k. checked_either (IssuesMove t) refuse (λ r. issued_none t) _ (λ e. step_issues _ _))
       (λ w tag. checked_either (IssuesMove t) refuse (λ r. issued_none t) _ (λ e. record { many = 1; last = refl; carried = refl }))
       (checked_either (IssuesMove t) refuse (λ r. issued_none t) _ (λ e. record { many = 0; last = omega arith; carried = refl }))
       (λ e. checked_either (IssuesMove t) refuse (λ r. issued_none t) _ (λ k. record { many = 0; last = omega arith; carried = refl }))
 
-  parsed-issues : (n : Network) (p : Parsed) → Issues t (seen_parsed n t p)
-  parsed-issues n (Asks q) = move-issues n q
-  parsed-issues n (Refused r) = issued_none t
+  parsed_issues : (n : Network) (p : Parsed) → Issues t (seen_parsed n t p)
+  parsed_issues n (Asks q) = move_issues n q
+  parsed_issues n (Refused r) = issued_none t
 
   pub local_issues : (n : Network) (c : Call) → Issues t (local n t c)
   unfolding local
   local_issues n c =
-      either (Issues t) (ltb c.size 65536) (λ e. issued_none t) (λ e. parsed-issues n (asked (read c.line)).parsed)
+      either (Issues t) (ltb c.size 65536) (λ e. issued_none t) (λ e. parsed_issues n (asked (read c.line)).parsed)

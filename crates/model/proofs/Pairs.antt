@@ -77,8 +77,8 @@ module _ {A : Type 0} (f : A → A → A) where
     together_at (x ∷ l) (y ∷ m) e (suc i) = together_at l m (omega arith) i
 
     -- it is the list r whose elements are these
-    pub together-is : (l m r : List A) → length l ≡ length m → length l ≡ length r
+    pub together_is : (l m r : List A) → length l ≡ length m → length l ≡ length r
         → ((i : ℕ) → i < length l → f (get_or l i d) (get_or m i d) ≡ get_or r i d) → together f l m ≡ r
-    together-is l m r e w h =
+    together_is l m r e w h =
         let n = together_length l m e in
         ext_get_or d (together f l m) r (n ∙ w) (λ i k. together_at l m e i ∙ h i (omega arith))

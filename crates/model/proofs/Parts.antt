@@ -16,24 +16,24 @@ part_length n a l h = simp (length-take, length-drop) (omega arith)
 
 -- n elements of l from place b on, replaced by those of t
 module _ {A : Type 0} (l : List A) (b : ℕ) (t : List A) (n : ℕ) (z : A) (hl : b + n ≤ length l) (ht : length t ≡ n) where
-  paste-before : (i : ℕ) → i < b → get_or (paste l b t n) i z ≡ get_or l i z
-  paste-before i h =
+  paste_before : (i : ℕ) → i < b → get_or (paste l b t n) i z ≡ get_or l i z
+  paste_before i h =
       let e : length (take b l ++ take n t) ≡ b + n = length_paste_head l b t n (omega arith) (omega arith) in
       let f : length (take b l) ≡ b = length-take-le b l (omega arith) in
       get_or-append (take b l ++ take n t) (drop (b + n) l) z i (omega arith)
       ∙ get_or-append (take b l) (take n t) z i (omega arith)
       ∙ get_or-take b l i z h
 
-  paste-after : (i : ℕ) → b + n ≤ i → get_or (paste l b t n) i z ≡ get_or l i z
-  paste-after i h =
+  paste_after : (i : ℕ) → b + n ≤ i → get_or (paste l b t n) i z ≡ get_or l i z
+  paste_after i h =
       let k : b + n + (i - (b + n)) ≡ i = omega arith in
       rw k at
       (sym (get_or-drop (b + n) (paste l b t n) (i - (b + n)) z)
       ∙ ap (λ (x : List A). get_or x (i - (b + n)) z) (drop-paste l b t n (omega arith) (omega arith))
       ∙ get_or-drop (b + n) l (i - (b + n)) z)
 
-  paste-in : (i : ℕ) → i < n → get_or (paste l b t n) (b + i) z ≡ get_or t i z
-  paste-in i h =
+  paste_in : (i : ℕ) → i < n → get_or (paste l b t n) (b + i) z ≡ get_or t i z
+  paste_in i h =
       let e : length (take b l ++ take n t) ≡ b + n = length_paste_head l b t n (omega arith) (omega arith) in
       let f : length (take b l) ≡ b = length-take-le b l (omega arith) in
       get_or-append (take b l ++ take n t) (drop (b + n) l) z (b + i) (omega arith)
@@ -46,11 +46,11 @@ module _ {A : Type 0} (l : List A) (b : ℕ) (t : List A) (n : ℕ) (z : A) (hl 
       let e : length (paste l b t n) ≡ length l = length-paste l b t n hl (omega arith) in
       let f : length (take n (drop b (paste l b t n))) ≡ n = part_length n b (paste l b t n) (omega arith) in
       ext_get_or z (take n (drop b (paste l b t n))) t (omega arith)
-      (λ i h. get_or-take n (drop b (paste l b t n)) i z (omega arith) ∙ get_or-drop b (paste l b t n) i z ∙ paste-in i (omega arith))
+      (λ i h. get_or-take n (drop b (paste l b t n)) i z (omega arith) ∙ get_or-drop b (paste l b t n) i z ∙ paste_in i (omega arith))
 
   -- a part beside it
-  part-other : (a : ℕ) → a + n ≤ length l → (a + n ≤ b) ⊎ (b + n ≤ a) → take n (drop a (paste l b t n)) ≡ take n (drop a l)
-  part-other a ha apart =
+  part_other : (a : ℕ) → a + n ≤ length l → (a + n ≤ b) ⊎ (b + n ≤ a) → take n (drop a (paste l b t n)) ≡ take n (drop a l)
+  part_other a ha apart =
       let e : length (paste l b t n) ≡ length l = length-paste l b t n hl (omega arith) in
       let f : length (take n (drop a (paste l b t n))) ≡ n = part_length n a (paste l b t n) (omega arith) in
       let g : length (take n (drop a l)) ≡ n = part_length n a l ha in
@@ -59,7 +59,7 @@ module _ {A : Type 0} (l : List A) (b : ℕ) (t : List A) (n : ℕ) (z : A) (hl 
       let k : i < n = omega arith in
       get_or-take n (drop a (paste l b t n)) i z k
       ∙ get_or-drop a (paste l b t n) i z
-      ∙ ⊎_elim (λ p. paste-before (a + i) (omega arith)) (λ p. paste-after (a + i) (omega arith)) apart
+      ∙ ⊎_elim (λ p. paste_before (a + i) (omega arith)) (λ p. paste_after (a + i) (omega arith)) apart
       ∙ sym (get_or-drop a l i z)
       ∙ sym (get_or-take n (drop a l) i z k))
 
@@ -86,9 +86,9 @@ module _ (s : State) (hs : Sized s) where
       record { items = simp (length-take, length-drop) (omega arith); rows = simp (length-take, length-drop) (omega arith) }
 
   module _ (t : Part) (ht : Whole t) where
-    pub store-sized : (u : ℕ) → Numbered u → Sized (store s u t)
+    pub store_sized : (u : ℕ) → Numbered u → Sized (store s u t)
     unfolding store
-    store-sized u hu =
+    store_sized u hu =
         omega (
           arith,
           hs,
@@ -106,17 +106,17 @@ module _ (s : State) (hs : Sized s) where
           part_same s.rows (32 * (u - 1)) t.rows 32 blank_row (omega arith) ht.rows,
         )
 
-    pub load-others : (u v : ℕ) → Numbered u → Numbered v → (u ≡ v → ⊥) → load (store s v t) u ≡ load s u
+    pub load_others : (u v : ℕ) → Numbered u → Numbered v → (u ≡ v → ⊥) → load (store s v t) u ≡ load s u
     unfolding load store
-    load-others u v hu hv ne = go (dec_lt u v)
+    load_others u v hu hv ne = go (dec_lt u v)
       where
         beside : (16 * (u - 1) + 16 ≤ 16 * (v - 1)) ⊎ (16 * (v - 1) + 16 ≤ 16 * (u - 1))
             → (32 * (u - 1) + 32 ≤ 32 * (v - 1)) ⊎ (32 * (v - 1) + 32 ≤ 32 * (u - 1)) → load (store s v t) u ≡ load s u
         beside p q =
             simp (
               get_or-set_other s.sessions (v - 1) (u - 1) t.session blank_session (omega arith),
-              part-other s.items (16 * (v - 1)) t.items 16 blank_slot (omega arith) ht.items (16 * (u - 1)) (omega arith) p,
-              part-other s.rows (32 * (v - 1)) t.rows 32 blank_row (omega arith) ht.rows (32 * (u - 1)) (omega arith) q,
+              part_other s.items (16 * (v - 1)) t.items 16 blank_slot (omega arith) ht.items (16 * (u - 1)) (omega arith) p,
+              part_other s.rows (32 * (v - 1)) t.rows 32 blank_row (omega arith) ht.rows (32 * (u - 1)) (omega arith) q,
             )
 
         go : Dec (u < v) → load (store s v t) u ≡ load s u

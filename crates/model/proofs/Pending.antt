@@ -39,9 +39,9 @@ module _ (k : ℕ) where
   abbrev times : List Slot → ℕ
   times l = tally (is_numbered k) l
 
-  put-once : (l : List Slot) (n : ℕ) (i : Item) → times (put_item l n i) ≤ times l + one (eqb n k)
+  put_once : (l : List Slot) (n : ℕ) (i : Item) → times (put_item l n i) ≤ times l + one (eqb n k)
   unfolding put_item
-  put-once l n i =
+  put_once l n i =
       omega (
         arith,
         tally_set (is_numbered k) l (place vacant l) (record { number = record { 0 = n }; item = i }),
@@ -52,9 +52,9 @@ module _ (k : ℕ) where
       pending true b = omega arith
       pending false b = omega arith
 
-  gone-once : (l : List Slot) (at : ℕ) (w : Wait) → times (use_up (set l at blank_slot) w) ≤ times l
+  gone_once : (l : List Slot) (at : ℕ) (w : Wait) → times (use_up (set l at blank_slot) w) ≤ times l
   unfolding use_up
-  gone-once l at w =
+  gone_once l at w =
       let rest = set l at blank_slot in
       omega (
         arith,
@@ -63,8 +63,8 @@ module _ (k : ℕ) where
       )
 
   -- the next number was not issued before
-  next-once : (n : ℕ) → one (within 1 n k) + one (eqb (n + 1) k) ≤ one (within 1 (n + 1) k)
-  next-once n = go (ℕ_discrete (n + 1) k)
+  next_once : (n : ℕ) → one (within 1 n k) + one (eqb (n + 1) k) ≤ one (within 1 (n + 1) k)
+  next_once n = go (ℕ_discrete (n + 1) k)
     where
       go : Dec (n + 1 ≡ k) → one (within 1 n k) + one (eqb (n + 1) k) ≤ one (within 1 (n + 1) k)
       go (yes e) = rw (eq-eqb (n + 1) k e, lt-leb k n (omega arith), le-leb 1 k (omega arith), le-leb k (n + 1) (omega arith)) (omega arith)
@@ -77,12 +77,12 @@ module _ (k : ℕ) where
           (λ h. omega arith))
 
   written_once : (l : List Slot) (n : ℕ) (o : Outcome) → times l ≤ one (within 1 n k) → times (written l n o) ≤ one (within 1 (n + written_count o) k)
-  written_once l n (Wrote i) h = omega (arith, put-once l (n + 1) i, next-once n)
-  written_once l n (WroteByDefault i) h = omega (arith, put-once l (n + 1) i, next-once n)
+  written_once l n (Wrote i) h = omega (arith, put_once l (n + 1) i, next_once n)
+  written_once l n (WroteByDefault i) h = omega (arith, put_once l (n + 1) i, next_once n)
   written_once l n (WroteTwo i j) h =
       let e : n + 1 + 1 ≡ n + 2 = omega arith in
-      let second = rw e at (next-once (n + 1)) in
-      omega (arith, put-once (put_item l (n + 1) i) (n + 2) j, put-once l (n + 1) i, next-once n, second)
+      let second = rw e at (next_once (n + 1)) in
+      omega (arith, put_once (put_item l (n + 1) i) (n + 2) j, put_once l (n + 1) i, next_once n, second)
   written_once l n (Lost x) h = simp add-zero h
   written_once l n Denied h = simp add-zero h
   written_once l n Opened h = simp add-zero h
@@ -97,7 +97,7 @@ module _ (t : Part) (h : Distinct t) where
       record {
         once = λ k.
             written_once k (use_up (set t.items at blank_slot) f.wait) t.session.last.0 f.outcome
-            (omega (arith, gone-once k t.items at f.wait, h.once k));
+            (omega (arith, gone_once k t.items at f.wait, h.once k));
       }
 
   pub distinct_item : (g : Stage) (c d : ℕ) (i : Item) → Distinct (with_item t g c d i)

@@ -50,28 +50,28 @@ lines_joined f k (x ∷ l) = rw (lines_append form_line (f k x) (entries_from f 
 -- ---- the places of a network
 
 module _ (n : Network) where
-  abbrev nodeLines : List (List ℕ)
-  nodeLines = lines_from node_form 1 n.nodes
+  abbrev node_lines : List (List ℕ)
+  node_lines = lines_from node_form 1 n.nodes
 
-  abbrev routeLines : List (List ℕ)
-  routeLines = lines_from route_form 0 n.routes
+  abbrev route_lines : List (List ℕ)
+  route_lines = lines_from route_form 0 n.routes
 
   pub node_line : (j : ℕ) → length n.nodes ≡ 32 → j < 32
       → get_or (place_lines n) j [] ≡ joined (map form_line (node_form (1 + j) (get_or n.nodes j no_node)))
   node_line j h w =
-      get_or-append nodeLines routeLines [] j (omega (arith, lines_length node_form 1 n.nodes))
+      get_or-append node_lines route_lines [] j (omega (arith, lines_length node_form 1 n.nodes))
       ∙ lines_at node_form 1 n.nodes no_node j (omega arith)
 
   pub route_line : (p : ℕ) → length n.nodes ≡ 32 → p < length n.routes
       → get_or (place_lines n) (32 + p) [] ≡ joined (map form_line (route_form p (get_or n.routes p 0)))
   route_line p h w =
       ap (λ (i : ℕ). get_or (place_lines n) (i + p) []) (sym (lines_length node_form 1 n.nodes ∙ h))
-      ∙ get_or-append-add nodeLines routeLines p []
+      ∙ get_or-append-add node_lines route_lines p []
       ∙ (rw (zero-add p) at (lines_at route_form 0 n.routes 0 p w))
 
   pub places_count : Consistent n → length (place_lines n) ≡ 1088
   places_count h =
-      omega (arith, h.nodes, h.routes, length-append nodeLines routeLines, lines_length node_form 1 n.nodes, lines_length route_form 0 n.routes)
+      omega (arith, h.nodes, h.routes, length-append node_lines route_lines, lines_length node_form 1 n.nodes, lines_length route_form 0 n.routes)
 
   pub text_places : network_text n ≡ joined (place_lines n)
   text_places =
@@ -80,7 +80,7 @@ module _ (n : Network) where
         lines_joined node_form 1 n.nodes,
         lines_joined route_form 0 n.routes,
       )
-      (sym (joined_append nodeLines routeLines))
+      (sym (joined_append node_lines route_lines))
 
 -- ---- where a line is there
 
@@ -122,9 +122,9 @@ pub union_places : (n m : Network) → Consistent n → Consistent m → place_l
 union_places n m h g =
     let nodes = lines_together node_form (λ x. x.given) (λ a x. form_there x.given _) 1 n.nodes m.nodes in
     let routes = lines_together route_form (λ x. ltb 0 x) (λ p x. form_there (ltb 0 x) _) 0 n.routes m.routes in
-    let same : length (nodeLines n) ≡ length (nodeLines m) = lines_length node_form 1 n.nodes ∙ h.nodes ∙ sym g.nodes ∙ sym (lines_length node_form 1 m.nodes) in
-    ap (λ (l : List (List ℕ)). l ++ routeLines (union n m)) nodes ∙ ap (λ (l : List (List ℕ)). together first_of (nodeLines n) (nodeLines m) ++ l) routes
-    ∙ sym (together_append first_of (nodeLines n) (routeLines n) (nodeLines m) (routeLines m) same)
+    let same : length (node_lines n) ≡ length (node_lines m) = lines_length node_form 1 n.nodes ∙ h.nodes ∙ sym g.nodes ∙ sym (lines_length node_form 1 m.nodes) in
+    ap (λ (l : List (List ℕ)). l ++ route_lines (union n m)) nodes ∙ ap (λ (l : List (List ℕ)). together first_of (node_lines n) (node_lines m) ++ l) routes
+    ∙ sym (together_append first_of (node_lines n) (route_lines n) (node_lines m) (route_lines m) same)
 
 -- ---- each is one line
 
@@ -144,5 +144,5 @@ lines_are_lines f each k (x ∷ l) = (each k x, lines_are_lines f each (k + 1) l
 
 pub places_lines : (n : Network) → All IsLine (place_lines n)
 places_lines n =
-    all_append IsLine (nodeLines n) (routeLines n) (lines_are_lines node_form (λ a x. form_is_line x.given _) 1 n.nodes)
+    all_append IsLine (node_lines n) (route_lines n) (lines_are_lines node_form (λ a x. form_is_line x.given _) 1 n.nodes)
     (lines_are_lines route_form (λ p next. form_is_line (ltb 0 next) _) 0 n.routes)

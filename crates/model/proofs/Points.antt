@@ -20,7 +20,7 @@ use Rattle.model.specs.Packet.{hop_limit, bare, concerns}
 use Rattle.model.specs.Row.{no_peers, out_row, in_row, fits, newest}
 use Rattle.model.specs.Rules.{discovers}
 use Rattle.model.proofs.Lists.{all_map}
-use Rattle.model.proofs.Match.{of-newest, none_newest}
+use Rattle.model.proofs.Match.{of_newest, none_newest}
 
 -- ---- the points
 
@@ -83,18 +83,18 @@ module _ (net : Network) (c d : ℕ) where
       last i l m (no p) e = h.client i l (omega arith) e
 
   -- from two equal points on all are equal
-  same-later : (m i j : ℕ) → point i ≡ point j → (a b : ℕ) → a ≡ m + i → b ≡ m + j → point a ≡ point b
+  same_later : (m i j : ℕ) → point i ≡ point j → (a b : ℕ) → a ≡ m + i → b ≡ m + j → point a ≡ point b
   unfolding points
-  same-later zero i j e a b x y =
+  same_later zero i j e a b x y =
       let v : a ≡ i = omega arith in
       let w : j ≡ b = omega arith in
       ap point v ∙ e ∙ ap point w
-  same-later (suc m) i j e a b x y = same-later m (suc i) (suc j) (ap (λ (z : ℕ). walk net d z hop_limit z) e) a b (omega arith) (omega arith)
+  same_later (suc m) i j e a b x y = same_later m (suc i) (suc j) (ap (λ (z : ℕ). walk net d z hop_limit z) e) a b (omega arith) (omega arith)
 
   -- before the server every point is met once
   once : (k : ℕ) → Between k → point k ≡ d → (i j : ℕ) → point i ≡ point j → j ≤ k → i < j → ⊥
   once k h e i j w m n =
-      h.server (k - j + i) (omega arith) (same-later (k - j) i j w (k - j + i) k refl (omega arith) ∙ e)
+      h.server (k - j + i) (omega arith) (same_later (k - j) i j w (k - j + i) k refl (omega arith) ∙ e)
 
   pub met_once : (k : ℕ) → Between k → point k ≡ d → (i j : ℕ) → point i ≡ point j → i ≤ k → j ≤ k → i ≡ j
   met_once k h e i j w m n = go (dec_lt i j) (dec_lt j i)
@@ -108,16 +108,16 @@ module _ (net : Network) (c d : ℕ) where
 
   -- a row of establishment e, which is between the points i and e = i + 1, b being begun
   pub data Chained (b : ℕ) : Row → Type 0 where
-    responderOut : (i e : ℕ) → e ≡ i + 1 → e ≤ b → Chained b (out_row (point i) c d (point e) e)
-    responderIn : (i e : ℕ) → e ≡ i + 1 → e ≤ b → Chained b (in_row (point i) d c (point e) e)
-    initiatorOut : (i e : ℕ) → e ≡ i + 1 → e ≤ b → Chained b (out_row (point e) d c (point i) e)
-    initiatorIn : (i e : ℕ) → e ≡ i + 1 → e ≤ b → Chained b (in_row (point e) c d (point i) e)
+    responder_out : (i e : ℕ) → e ≡ i + 1 → e ≤ b → Chained b (out_row (point i) c d (point e) e)
+    responder_in : (i e : ℕ) → e ≡ i + 1 → e ≤ b → Chained b (in_row (point i) d c (point e) e)
+    initiator_out : (i e : ℕ) → e ≡ i + 1 → e ≤ b → Chained b (out_row (point e) d c (point i) e)
+    initiator_in : (i e : ℕ) → e ≡ i + 1 → e ≤ b → Chained b (in_row (point e) c d (point i) e)
 
   pub chained_more : (b b' : ℕ) → b ≤ b' → (r : Row) → Chained b r → Chained b' r
-  chained_more b b' h r (responderOut i e w m) = responderOut i e w (omega arith)
-  chained_more b b' h r (responderIn i e w m) = responderIn i e w (omega arith)
-  chained_more b b' h r (initiatorOut i e w m) = initiatorOut i e w (omega arith)
-  chained_more b b' h r (initiatorIn i e w m) = initiatorIn i e w (omega arith)
+  chained_more b b' h r (responder_out i e w m) = responder_out i e w (omega arith)
+  chained_more b b' h r (responder_in i e w m) = responder_in i e w (omega arith)
+  chained_more b b' h r (initiator_out i e w m) = initiator_out i e w (omega arith)
+  chained_more b b' h r (initiator_in i e w m) = initiator_in i e w (omega arith)
 
 -- ---- rows that fit
 
@@ -127,27 +127,27 @@ module _ (net : Network) (c d b : ℕ) where
 
   module _ (x : ℕ) (p : Packet) where
     -- every filter has the client in it
-    other-ends : (p.source ≡ c → ⊥) → (p.destination ≡ c → ⊥) → (r : Row) → row r → fits true x p r ≡ false
-    other-ends s t r (responderOut i e w m) = simp (ne_eqb c p.source (λ w. s (sym w)), and-false)
-    other-ends s t r (responderIn i e w m) = refl
-    other-ends s t r (initiatorOut i e w m) = simp (ne_eqb c p.destination (λ w. t (sym w)), and-false)
-    other-ends s t r (initiatorIn i e w m) = refl
+    other_ends : (p.source ≡ c → ⊥) → (p.destination ≡ c → ⊥) → (r : Row) → row r → fits true x p r ≡ false
+    other_ends s t r (responder_out i e w m) = simp (ne_eqb c p.source (λ w. s (sym w)), and-false)
+    other_ends s t r (responder_in i e w m) = refl
+    other_ends s t r (initiator_out i e w m) = simp (ne_eqb c p.destination (λ w. t (sym w)), and-false)
+    other_ends s t r (initiator_in i e w m) = refl
 
     -- the first establishment's packets skip its rows, and there are no others
-    first-skipped : b ≡ 1 → concerns p.payload b ≡ true → (r : Row) → row r → fits true x p r ≡ false
-    first-skipped o k r (responderOut i e w m) = let v : e ≡ b = omega arith in rw (v, k) (simp and-false)
-    first-skipped o k r (responderIn i e w m) = refl
-    first-skipped o k r (initiatorOut i e w m) = let v : e ≡ b = omega arith in rw (v, k) (simp and-false)
-    first-skipped o k r (initiatorIn i e w m) = refl
+    first_skipped : b ≡ 1 → concerns p.payload b ≡ true → (r : Row) → row r → fits true x p r ≡ false
+    first_skipped o k r (responder_out i e w m) = let v : e ≡ b = omega arith in rw (v, k) (simp and-false)
+    first_skipped o k r (responder_in i e w m) = refl
+    first_skipped o k r (initiator_out i e w m) = let v : e ≡ b = omega arith in rw (v, k) (simp and-false)
+    first_skipped o k r (initiator_in i e w m) = refl
 
     -- neither Req nor Rep of establishment b goes through a tunnel
-    pub never-tunnelled : (i : ℕ) → b ≡ i + 1 → Between net c d b → concerns p.payload b ≡ true
+    pub never_tunnelled : (i : ℕ) → b ≡ i + 1 → Between net c d b → concerns p.payload b ≡ true
         → ((points net c d i ≡ c → ⊥) → (p.source ≡ c → ⊥) × (p.destination ≡ c → ⊥)) → (rows : List Row) → All row rows
         → newest rows true x p ≡ no_peers
-    never-tunnelled zero o h k f rows rs =
-        none_newest true x p rows (all_map row _ (first-skipped (omega arith) k) rows rs)
-    never-tunnelled (suc i) o h k f rows rs =
-        let g = f (h.client (suc i) (omega arith) (omega arith)) in none_newest true x p rows (all_map row _ (other-ends g.0 g.1) rows rs)
+    never_tunnelled zero o h k f rows rs =
+        none_newest true x p rows (all_map row _ (first_skipped (omega arith) k) rows rs)
+    never_tunnelled (suc i) o h k f rows rs =
+        let g = f (h.client (suc i) (omega arith) (omega arith)) in none_newest true x p rows (all_map row _ (other_ends g.0 g.1) rows rs)
 
   -- the tunnel that a Done comes out of at y, from x
   pub record Through (y x : ℕ) : Type 0 where
@@ -159,12 +159,12 @@ module _ (net : Network) (c d b : ℕ) where
     pub few : number ≤ b
 
   module _ (apart : c ≡ d → ⊥) (y : ℕ) where
-    passed-row : (r : Row) → row r → fits false y (bare d c Done) r ≡ true → Through y r.peers.first
-    passed-row r (responderOut i e w m) f = never f
-    passed-row r (responderIn i e w m) f =
+    passed_row : (r : Row) → row r → fits false y (bare d c Done) r ≡ true → Through y r.peers.first
+    passed_row r (responder_out i e w m) f = never f
+    passed_row r (responder_in i e w m) f =
         record { place = i; near = sym (eqb-true (points net c d i) y (simp (eq-eqb d d refl, eq-eqb c c refl, and-true) at f)); number = e; far = refl; follows = w; few = m }
-    passed-row r (initiatorOut i e w m) f = never f
-    passed-row r (initiatorIn i e w m) f = never (sym (simp (ne_eqb c d apart, and-false)) ∙ f)
+    passed_row r (initiator_out i e w m) f = never f
+    passed_row r (initiator_in i e w m) f = never (sym (simp (ne_eqb c d apart, and-false)) ∙ f)
 
     pub passed : (rows : List Row) → All row rows → ((newest rows false y (bare d c Done)).first ≡ 0 → ⊥) → Through y (newest rows false y (bare d c Done)).first
-    passed rows rs = of-newest false y (bare d c Done) (Through y) rows (all_map row _ passed-row rows rs)
+    passed rows rs = of_newest false y (bare d c Done) (Through y) rows (all_map row _ passed_row rows rs)

@@ -40,28 +40,28 @@ module _ (t : Part) (h : Sane t) (at : ℕ) (b : at < length t.items) (e : is_ac
   abbrev item : Item
   item = item_at t.items at
 
-  set-up : is_set_up_item item ≡ true
-  set-up = (both (is_set_up_item item) (not (is_wait item)) e).0
+  set_up_lem : is_set_up_item item ≡ true
+  set_up_lem = (both (is_set_up_item item) (not (is_wait item)) e).0
 
-  no-wait : is_wait item ≡ false
-  no-wait = not-true (is_wait item) (both (is_set_up_item item) (not (is_wait item)) e).1
+  no_wait : is_wait item ≡ false
+  no_wait = not-true (is_wait item) (both (is_set_up_item item) (not (is_wait item)) e).1
 
-  is-numbered : is_numbered number (get_or t.items at blank_slot) ≡ true
-  is-numbered = rw ((both (is_pending item) _ set-up).0, eq-eqb number number refl)
+  is_numbered_lem : is_numbered number (get_or t.items at blank_slot) ≡ true
+  is_numbered_lem = rw ((both (is_pending item) _ set_up_lem).0, eq-eqb number number refl)
 
-  within-last : within 1 t.session.last.0 number ≡ true
-  within-last = go (within 1 t.session.last.0 number) (h.distinct.once number)
+  within_last : within 1 t.session.last.0 number ≡ true
+  within_last = go (within 1 t.session.last.0 number) (h.distinct.once number)
     where
       go : (w : Bool) → tally (is_numbered number) t.items ≤ one w → w ≡ true
       go true k = refl
-      go false k = absurd (omega (arith, tally_at (is_numbered number) blank_slot t.items at b is-numbered))
+      go false k = absurd (omega (arith, tally_at (is_numbered number) blank_slot t.items at b is_numbered_lem))
 
-  number-bounds : (1 ≤ number) × (number ≤ 1000000)
-  number-bounds = let x = within_bounds 1 t.session.last.0 number within-last in (x.0, omega (arith, h.last))
+  number_bounds : (1 ≤ number) × (number ≤ 1000000)
+  number_bounds = let x = within_bounds 1 t.session.last.0 number within_last in (x.0, omega (arith, h.last))
 
   at_its_place : place (is_numbered number) t.items ≡ at
   at_its_place =
-      place_once (is_numbered number) blank_slot t.items at b is-numbered (omega (arith, rw within-last at (h.distinct.once number)))
+      place_once (is_numbered number) blank_slot t.items at b is_numbered_lem (omega (arith, rw within_last at (h.distinct.once number)))
 
   in_use : unused t ≡ false
   in_use = not_so (unused t) (λ w. never (sym (all_get (At Inactive) t.items at blank_slot (all_unused Inactive refl t h w) refl) ∙ e))
@@ -71,7 +71,7 @@ module _ (t : Part) (h : Sane t) (at : ℕ) (b : at < length t.items) (e : is_ac
   accepted net s =
       ap (λ (x : ℕ). (seen_move t (step_at net are_nodes t x)).refusal) at_its_place
       ∙ ap (λ (m : Move). (seen_move t m).refusal)
-      (checked_passed refuse _ _ (in_use, (lt-leb 16 at (omega (arith, h.roomy.whole)), (no-wait, (s, tt)))))
+      (checked_passed refuse _ _ (in_use, (lt-leb 16 at (omega (arith, h.roomy.whole)), (no_wait, (s, tt)))))
       ∙ outcome_answers t.session.last.0 (rule net are_nodes t item).outcome
 
 -- ---- its call
@@ -88,25 +88,25 @@ module _ (s : State) (h : Sound s) (u : ℕ) (q : is_session u ≡ true)
   k = h.sane u (numbered u q)
 
   bounds : (1 ≤ its) × (its ≤ 1000000)
-  bounds = number-bounds t k at b e
+  bounds = number_bounds t k at b e
 
-  its-line : read (text (step u its)) ≡ some (step u its)
-  its-line = step_read u its (within_bounds 1 8 u q).1 bounds.1
+  its_line : read (text (step u its)) ≡ some (step u its)
+  its_line = step_read u its (within_bounds 1 8 u q).1 bounds.1
 
   its_own : form_names u (read (text (step u its))) ≡ true
-  its_own = rw its-line (eq-eqb u u refl)
+  its_own = rw its_line (eq-eqb u u refl)
 
   pub no_open : form_opens u (read (text (step u its))) ≡ false
-  no_open = rw its-line
+  no_open = rw its_line
 
   pub its_refusal : spent t ≡ false → (size : ℕ) → 65536 ≤ size → (answered s (text (step u its)) size).refusal ≡ none
   unfolding local
   its_refusal l size big =
       ap (λ (x : Seen). x.refusal) (call_own s h.good u (numbered u q) (record { line = text (step u its); size = size }) its_own)
-      ∙ rw (le-ltb size 65536 big, its-line, q, bounds_within 1 1000000 its bounds.0 bounds.1) (accepted t k at b e s.network l)
+      ∙ rw (le-ltb size 65536 big, its_line, q, bounds_within 1 1000000 its bounds.0 bounds.1) (accepted t k at b e s.network l)
 
   pub its_count : spent t ≡ false → (n : ℕ) → call_count u s n (roomy_call (text (step u its))) ≡ n + 1
   its_count l n =
-      rw (its_own, its_refusal l 65536 (omega arith), its-line)
+      rw (its_own, its_refusal l 65536 (omega arith), its_line)
       (ap (λ (x : ℕ). cond (is_set_up_item (item_at t.items x)) (n + 1) n) (at_its_place t k at b e)
-      ∙ ap (λ (w : Bool). cond w (n + 1) n) (set-up t k at b e))
+      ∙ ap (λ (w : Bool). cond w (n + 1) n) (set_up_lem t k at b e))

@@ -18,7 +18,7 @@ use Rattle.model.proofs.Parts.{Numbered}
 use Rattle.model.specs.GivenBack.{Consistent}
 use Rattle.model.proofs.Consistent.{consistent_fresh, consistent_node, consistent_route}
 use Rattle.model.proofs.Moves.{FairMove}
-use Rattle.model.proofs.Sane.{Sane, SaneMove, sane_empty, sane_open, sane-step, sane_send, sane_close, sane_drop}
+use Rattle.model.proofs.Sane.{Sane, SaneMove, sane_empty, sane_open, sane_step, sane_send, sane_close, sane_drop}
 use Rattle.model.proofs.Asked.{session_in, own_cases, move_in}
 use Rattle.model.proofs.Counted.{Good}
 use Rattle.model.proofs.Local.{Seen, seen_move, fair_own, performed_own, performed_others, performed_good}
@@ -47,26 +47,26 @@ early_after s u (refuse r) f h e = h e
 early_after s u (moved a t c) f h e = let o = neither c.opens s.opened e in f.opens o.0 (h o.1)
 
 module _ (s : State) (h : Sound s) where
-  sane-own : (u : ℕ) → Numbered u → (q : request.Request) → SaneMove (move_in s u q)
-  sane-own u hu q =
+  sane_own : (u : ℕ) → Numbered u → (q : request.Request) → SaneMove (move_in s u q)
+  sane_own u hu q =
       let t = load s u in
       let k = h.sane u hu in
       own_cases SaneMove s.network (stands s.users false) q t tt
-      (sane_open t k _) (sane-step t k _ h.consistent _) (sane_send t k) (sane_close t k) (sane_drop t k)
+      (sane_open t k _) (sane_step t k _ h.consistent _) (sane_send t k) (sane_close t k) (sane_drop t k)
 
-  turn-sound : (u : ℕ) → Numbered u → (m : Move) → FairMove (load s u) m → SaneMove m → Sound (performed s u m).state
-  turn-sound u hu m f k =
+  turn_sound : (u : ℕ) → Numbered u → (m : Move) → FairMove (load s u) m → SaneMove m → Sound (performed s u m).state
+  turn_sound u hu m f k =
       record {
         good = performed_good s h.good u hu m f;
         consistent = rw (performed_network s u m) h.consistent;
         sane = λ v hv. part v hv (ℕ_discrete v u);
-        early = λ v hv e. unused-part v hv (ℕ_discrete v u) e;
+        early = λ v hv e. unused_part v hv (ℕ_discrete v u) e;
       }
     where
-      unused-part : (v : ℕ) → Numbered v → Dec (v ≡ u) → (performed s u m).state.opened ≡ false → unused (load (performed s u m).state v) ≡ true
-      unused-part v hv (yes e) w =
+      unused_part : (v : ℕ) → Numbered v → Dec (v ≡ u) → (performed s u m).state.opened ≡ false → unused (load (performed s u m).state v) ≡ true
+      unused_part v hv (yes e) w =
           rw (e, ap (λ (x : Seen). x.part) (performed_own s h.good u hu m f)) (early_after s u m f (h.early u hu) w)
-      unused-part v hv (no e) w = rw (performed_others s h.good u hu m f v hv e) (h.early v hv (performed_opened s u m w))
+      unused_part v hv (no e) w = rw (performed_others s h.good u hu m f v hv e) (h.early v hv (performed_opened s u m w))
 
       part : (v : ℕ) → Numbered v → Dec (v ≡ u) → Sane (load (performed s u m).state v)
       part v hv (yes e) =
@@ -86,7 +86,7 @@ module _ (s : State) (h : Sound s) where
       (λ q i o.
       let u = session_in q in
       let hu = numbered u i in
-      turn-sound u hu _ (fair_own s h.good u hu q) (sane-own u hu q))
+      turn_sound u hu _ (fair_own s h.good u hu q) (sane_own u hu q))
 
 after_sound : (cs : List Call) (s : State) → Sound s → Sound (after s cs)
 unfolding after

@@ -22,7 +22,7 @@ use Rattle.model.specs.Calls.{Reply, Call, call, answered, requested, replied_to
 use Rattle.model.proofs.Checks.{checked_either}
 use Rattle.model.proofs.Parts.{Numbered}
 use Rattle.model.proofs.Asked.{session_in, move_in, requested_own, IsSet, Meaning, refuses, gives_node, gives_route, of_session, shows, gives_back, meaning}
-use Rattle.model.proofs.Counted.{Good, naming-others}
+use Rattle.model.proofs.Counted.{Good, naming_others}
 use Rattle.model.proofs.Local.{fair_own, performed_good, performed_others}
 
 pub numbered : (u : ℕ) → is_session u ≡ true → Numbered u
@@ -38,22 +38,22 @@ module _ (P : State → Type 0) (s : State) (c : Call) (same : P s)
     (gives : gives_network c ≡ true → s.opened ≡ false → (n : Network) → Given s.network n → P (accepted s n).state)
     (moves : (q : request.Request) → is_session (session_in q) ≡ true → ((u : ℕ) → is_own u c ≡ eqb (session_in q) u)
     → P (performed s (session_in q) (move_in s (session_in q) q)).state) where
-  asked-cases : (r : Reading) → Meaning (read c.line) r → P (replied_to s r).state
+  asked_cases : (r : Reading) → Meaning (read c.line) r → P (replied_to s r).state
   unfolding requested node_turn route_turn
-  asked-cases r (refuses x w) = same
-  asked-cases r (gives_node a k has needs i j n) =
+  asked_cases r (refuses x w) = same
+  asked_cases r (gives_node a k has needs i j n) =
       checked_either (λ (t : Turn). P t.state) (refused s) (λ x. same) _ (λ e. gives n e.0 _ (by_node a k has needs i j))
-  asked-cases r (gives_route a b next n) =
+  asked_cases r (gives_route a b next n) =
       checked_either (λ (t : Turn). P t.state) (refused s) (λ x. same) _
       (λ e. gives n e.0 _ (by_route a b next (not-false (nodes_given s.network a b next) e.1.0) e.1.1.0))
-  asked-cases r (of_session q i h) = subst (λ (x : Reply). P x.state) (sym (requested_own s _ _ q i)) (moves q i h)
-  asked-cases r (shows h) = same
-  asked-cases r (gives_back h) = same
+  asked_cases r (of_session q i h) = subst (λ (x : Reply). P x.state) (sym (requested_own s _ _ q i)) (moves q i h)
+  asked_cases r (shows h) = same
+  asked_cases r (gives_back h) = same
 
   pub call_cases : P (call s c).state
   unfolding answered
   call_cases =
-      either (λ (x : Reply). P x.state) (ltb c.size 65536) (λ e. same) (λ e. asked-cases (asked (read c.line)) (meaning (read c.line)))
+      either (λ (x : Reply). P x.state) (ltb c.size 65536) (λ e. same) (λ e. asked_cases (asked (read c.line)) (meaning (read c.line)))
 
 -- ---- of a good state
 
@@ -67,7 +67,7 @@ given_good s n g =
     record {
       sized = omega (arith, g.sized);
       counted = λ out a q h.
-          g.counted out a q h ∙ sym (naming-others out a q s s' 0 (λ v hv ne. given_load s n v) 8 0 (omega arith) (omega arith));
+          g.counted out a q h ∙ sym (naming_others out a q s s' 0 (λ v hv ne. given_load s n v) 8 0 (omega arith) (omega arith));
     }
 
 pub performed_network : (s : State) (u : ℕ) (m : Move) → (performed s u m).state.network ≡ s.network

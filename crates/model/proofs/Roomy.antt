@@ -24,7 +24,7 @@ use Rattle.model.specs.Requests.{next_number, with_item, dropping}
 use Rattle.model.specs.SetUp.{is_pending, item_at}
 use Rattle.model.proofs.Checks.{one}
 use Rattle.model.proofs.Parts.{Whole}
-use Rattle.model.proofs.Weights.{count, weigh, weigh_out, weigh_wait, weigh_set, weigh-at, weigh-put, not_that_wait, length_put, ledger}
+use Rattle.model.proofs.Weights.{count, weigh, weigh_out, weigh_wait, weigh_set, weigh_at, weigh_put, not_that_wait, length_put, ledger}
 use Rattle.model.proofs.Lists.{tally_append, tally_take, tally_each, tally_split}
 use Rattle.model.proofs.Moves.{held_applied, applied_whole, held_dropping, dropping_whole}
 use Rattle.model.proofs.SetUpWeights.{waits, uses, space, carries, active, due, rows_of, begun_of, each, spare, pending, pends, begun_each, begun_once}
@@ -88,16 +88,16 @@ module _ (t : Part) (h : Roomy t) where
     still v =
         omega (
           arith,
-          weigh-at (uses v) refl t.items at,
+          weigh_at (uses v) refl t.items at,
           h.waits v,
           weigh_set (waits v) t.items at blank_slot (omega arith),
           not_that_wait v item w,
         )
 
-    pub step-ledger : (x : Item → ℕ) → x Free ≡ 0
+    pub step_ledger : (x : Item → ℕ) → x Free ≡ 0
         → weigh x (applied t at f).items + (x item + weigh_wait x f.wait) ≡ weigh x t.items + weigh_out x f.outcome
     unfolding applied
-    step-ledger x z =
+    step_ledger x z =
         ledger x z t.items t.session.last.0 at f (omega arith) (pends item rest still f.wait law.wants) (omega (arith, pending t.items))
 
     -- the rows that are added find a place
@@ -111,7 +111,7 @@ module _ (t : Part) (h : Roomy t) where
           begun_each t.session.begun,
           begun_each (begun_after t.session.begun f.begins),
           few_rows,
-          weigh-at (due each) refl t.items at,
+          weigh_at (due each) refl t.items at,
           law.begun,
           h.begun,
         )
@@ -119,30 +119,30 @@ module _ (t : Part) (h : Roomy t) where
     abbrev came : List Row
     came = placed t.session.rows f.added
 
-    pub roomy-step : Roomy (applied t at f)
+    pub roomy_step : Roomy (applied t at f)
     unfolding waits uses space carries active due applied session_after
-    roomy-step =
+    roomy_step =
         record {
           whole = applied_whole t h.whole at f;
           waits = λ v.
               omega (
                 arith,
-                step-ledger (uses v) refl,
-                step-ledger (waits v) (not_that_wait v Free refl),
+                step_ledger (uses v) refl,
+                step_ledger (waits v) (not_that_wait v Free refl),
                 law.waits v,
                 h.waits v,
                 not_that_wait v item w,
               );
-          places = omega (arith, step-ledger space refl);
-          tags = omega (arith, step-ledger carries refl);
-          actives = omega (arith, step-ledger active refl, law.actives);
+          places = omega (arith, step_ledger space refl);
+          tags = omega (arith, step_ledger carries refl);
+          actives = omega (arith, step_ledger active refl, law.actives);
           begun = omega (arith, law.begun, h.begun);
           counted = rw (held_applied t h.whole at f) (omega (arith, length-append (held t) came, h.counted));
           rows = λ v.
               rw (held_applied t h.whole at f)
               (omega (
                 arith,
-                step-ledger (due v) refl,
+                step_ledger (due v) refl,
                 law.rows v,
                 h.rows v,
                 tally_append (λ r. v r.establishment) (held t) came,
@@ -160,7 +160,7 @@ module _ (t : Part) (h : Roomy t) where
       let n = next_number t in
       let room : weigh (count is_pending) t.items < length t.items = omega (arith, pending t.items) in
       let put : (x : Item → ℕ) → x Free ≡ 0 → weigh x (put_item t.items n i) ≡ weigh x t.items + x i =
-      λ x z. weigh-put x z t.items n i room in
+      λ x z. weigh_put x z t.items n i room in
       record {
         whole = record { items = length_put t.items n i ∙ h.whole.items; rows = h.whole.rows };
         waits = λ v. omega (arith, put (uses v) refl, put (waits v) (not_that_wait v Free refl), h.waits v, no-waits v);

@@ -37,7 +37,7 @@ use Rattle.model.proofs.Weights.{counted, weigh_le, free_is}
 use Rattle.model.proofs.SetUpWeights.{uses, space, carries, active, due, spare, active_space, pending}
 use Rattle.model.proofs.Balance.{rule_law}
 use Rattle.model.proofs.Pending.{Distinct, distinct_step, distinct_item}
-use Rattle.model.proofs.Roomy.{Roomy, emptied, roomy_empty, roomy-step, roomy_item, roomy_dropping}
+use Rattle.model.proofs.Roomy.{Roomy, emptied, roomy_empty, roomy_step, roomy_item, roomy_dropping}
 use Rattle.model.proofs.Moves.{held_applied, held_dropping}
 use Rattle.model.proofs.Named.{Named, RowNamed, Written, bare_named, rule_named}
 
@@ -52,14 +52,14 @@ module _ (P : Item → Type 0) where
   unfolding put_item
   all_put l n i h k = all_set (At P) l (place vacant l) (record { number = record { 0 = n }; item = i }) h k
 
-  all-written : (l : List Slot) (n : ℕ) (o : Outcome) → All (At P) l → Written P o → All (At P) (written l n o)
-  all-written l n (Wrote i) h k = all_put l (n + 1) i h k
-  all-written l n (WroteByDefault i) h k = all_put l (n + 1) i h k
-  all-written l n (WroteTwo i j) h k = all_put (put_item l (n + 1) i) (n + 2) j (all_put l (n + 1) i h k.0) k.1
-  all-written l n (Lost e) h k = h
-  all-written l n Denied h k = h
-  all-written l n Opened h k = h
-  all-written l n (Delivered tag) h k = h
+  all_written : (l : List Slot) (n : ℕ) (o : Outcome) → All (At P) l → Written P o → All (At P) (written l n o)
+  all_written l n (Wrote i) h k = all_put l (n + 1) i h k
+  all_written l n (WroteByDefault i) h k = all_put l (n + 1) i h k
+  all_written l n (WroteTwo i j) h k = all_put (put_item l (n + 1) i) (n + 2) j (all_put l (n + 1) i h k.0) k.1
+  all_written l n (Lost e) h k = h
+  all_written l n Denied h k = h
+  all_written l n Opened h k = h
+  all_written l n (Delivered tag) h k = h
 
   module _ (z : P Free) where
     pub all_after : (l : List Slot) (n at : ℕ) (f : Effect) → All (At P) (set l at blank_slot) → Written P f.outcome
@@ -67,12 +67,12 @@ module _ (P : Item → Type 0) where
     unfolding items_after use_up
     all_after l n at f h k =
         let rest = set l at blank_slot in
-        all-written (use_up rest f.wait) n f.outcome
+        all_written (use_up rest f.wait) n f.outcome
         (all_set (At P) rest (place (λ (s : Slot). is_that_wait f.wait s.item) rest) blank_slot h z) k
 
     -- where nothing pends every place is free
-    all-free : (l : List Slot) → how_many_items is_pending l ≡ 0 → All (At P) l
-    all-free l h =
+    all_free : (l : List Slot) → how_many_items is_pending l ≡ 0 → All (At P) l
+    all_free l h =
         all_map (λ s. is_pending s.item ≡ false) (At P) (λ s e. subst P (sym (free_is s.item (not-false (is_free s.item) e))) z) l
         (none_tallied (λ s. is_pending s.item) l h)
 
@@ -110,7 +110,7 @@ unused_none t h u =
     omega (arith, h.places, h.tags, counted is_pending t.items, pending t.items)
 
 pub all_unused : (P : Item → Type 0) → P Free → (t : Part) → Sane t → unused t ≡ true → All (At P) t.items
-all_unused P z t h u = all-free P z t.items (unused_none t h.roomy u)
+all_unused P z t h u = all_free P z t.items (unused_none t h.roomy u)
 
 -- a session in use stays so in a step
 still_used : (g g' : Stage) → is_unused g ≡ false → is_unused g' ≡ true → spare g' ≤ spare g → ⊥
@@ -133,17 +133,17 @@ module _ (t : Part) (h : Sane t) where
   -- ---- step
 
   module _ (n : Network) (hn : Consistent n) (standing : ℕ → ℕ → Bool) where
-    sane-applied : (at : ℕ) → unused t ≡ false → leb 16 at ≡ false → is_wait (item_at t.items at) ≡ false → t.session.last.0 ≤ 999998
+    sane_applied : (at : ℕ) → unused t ≡ false → leb 16 at ≡ false → is_wait (item_at t.items at) ≡ false → t.session.last.0 ≤ 999998
         → Sane (applied t at (rule n standing t (item_at t.items at)))
     unfolding applied session_after
-    sane-applied at u b w l =
+    sane_applied at u b w l =
         let i = item_at t.items at in
         let v = t.session.server in
         let f = rule n standing t i in
         let ends = h.ends u in
         let k = rule_named n hn standing t ends.0 ends.1 i (all_get (At (Named v)) t.items at blank_slot h.items tt) in
         record {
-          roomy = roomy-step t h.roomy at (leb-false 16 at b) w f (rule_law n standing t i);
+          roomy = roomy_step t h.roomy at (leb-false 16 at b) w f (rule_law n standing t i);
           rows = rw (held_applied t h.roomy.whole at f)
               (all_append RowNamed (held t) (placed t.session.rows f.added) h.rows
               (all_take RowNamed (32 - t.session.rows) (added_rows f.added) k.1));
@@ -154,22 +154,22 @@ module _ (t : Part) (h : Sane t) where
           idle = λ e. absurd (still_used t.session.stage (stage_after t.session.stage f.outcome) u e (rule_law n standing t i).stage);
         }
 
-    sane-at : (at : ℕ) → SaneMove (step_at n standing t at)
+    sane_at : (at : ℕ) → SaneMove (step_at n standing t at)
     unfolding step_at stepped
-    sane-at at =
+    sane_at at =
         checked_either SaneMove refuse (λ r. tt) _
-        (λ e. sane-applied at e.0 e.1.0 e.1.1.0 (omega (arith, ltb-false _ t.session.last.0 e.1.1.1.0)))
+        (λ e. sane_applied at e.0 e.1.0 e.1.1.0 (omega (arith, ltb-false _ t.session.last.0 e.1.1.1.0)))
 
-    pub sane-step : (k : ℕ) → SaneMove (step_move n standing k t)
+    pub sane_step : (k : ℕ) → SaneMove (step_move n standing k t)
     unfolding step_move
-    sane-step k = sane-at (place (is_numbered k) t.items)
+    sane_step k = sane_at (place (is_numbered k) t.items)
 
   -- ---- open, send, close
 
   -- an item more that names nodes, at a stage in use and between nodes
-  sane-item : (g : Stage) (c d : ℕ) (i : Item) → is_unused g ≡ false → spent t ≡ false → Node c → Node d → All (At (Named d)) t.items → Named d i
+  sane_item : (g : Stage) (c d : ℕ) (i : Item) → is_unused g ≡ false → spent t ≡ false → Node c → Node d → All (At (Named d)) t.items → Named d i
       → Roomy (with_item t g c d i) → Sane (with_item t g c d i)
-  sane-item g c d i u l hc hd items k roomy =
+  sane_item g c d i u l hc hd items k roomy =
       record {
         roomy = roomy;
         rows = h.rows;
@@ -180,12 +180,12 @@ module _ (t : Part) (h : Sane t) where
         idle = λ e. never (sym u ∙ e);
       }
 
-  sane-opening : (c d : ℕ) → unused t ≡ true → spent t ≡ false → Node c → Node d → (c ≡ d → ⊥) → Sane (opening t c d)
+  sane_opening : (c d : ℕ) → unused t ≡ true → spent t ≡ false → Node c → Node d → (c ≡ d → ⊥) → Sane (opening t c d)
   unfolding opening uses space carries active due
-  sane-opening c d u l hc hd ne =
+  sane_opening c d u l hc hd ne =
       let z : spare t.session.stage ≡ 3 = rw u in
       let i = Wire c (bare c d (Disc c)) in
-      sane-item Stage.SettingUp c d i refl l hc hd
+      sane_item Stage.SettingUp c d i refl l hc hd
       (all_unused (Named d) tt t h u)
       (hc, bare_named c d (Disc c) hc hd, λ e. (hc, ne, refl, refl))
       (roomy_item t h.roomy Stage.SettingUp c d i (λ v. refl) (λ w. refl) (omega arith) (omega arith)
@@ -197,32 +197,32 @@ module _ (t : Part) (h : Sane t) where
       checked_either SaneMove refuse (λ r. tt) _
       (λ e.
       let k = both (given n c) (given n d) (not-false (given n c && given n d) e.1.0) in
-      sane-opening c d (not-false (unused t) e.0) e.1.1.1.1.0 (given_node n c k.0) (given_node n d k.1) (eqb-false c d e.1.1.0))
+      sane_opening c d (not-false (unused t) e.0) e.1.1.1.1.0 (given_node n c k.0) (given_node n d k.1) (eqb-false c d e.1.1.0))
 
   module _ (u : unused t ≡ false) (room : leb 12 (how_many_items is_data_item t.items) ≡ false) (l : spent t ≡ false) (tag : ℕ) where
     -- a Data from the one end to the other
-    sane-data : (a b : ℕ) → Node a → Node b
+    sane_data : (a b : ℕ) → Node a → Node b
         → Sane (with_item t t.session.stage t.session.client t.session.server (Out a (bare a b (Data tag))))
     unfolding uses space carries active due
-    sane-data a b ha hb =
+    sane_data a b ha hb =
         let g = t.session.stage in
         let c = t.session.client in
         let d = t.session.server in
         let i = Out a (bare a b (Data tag)) in
         let z : spare g ≡ 0 = rw u in
         let k = leb-false 12 (how_many_items is_data_item t.items) room in
-        sane-item g c d i u l (h.ends u).0 (h.ends u).1 h.items (ha, bare_named a b (Data tag) ha hb, refl, refl)
+        sane_item g c d i u l (h.ends u).0 (h.ends u).1 h.items (ha, bare_named a b (Data tag) ha hb, refl, refl)
         (roomy_item t h.roomy g c d i (λ v. refl) (λ w. refl) (omega arith) (omega (arith, counted is_data_item t.items)) (omega arith))
 
-    sane-sending : (w : Sender) → Sane (sending t w tag)
+    sane_sending : (w : Sender) → Sane (sending t w tag)
     unfolding sending
-    sane-sending Client = sane-data t.session.client t.session.server (h.ends u).0 (h.ends u).1
-    sane-sending Server = sane-data t.session.server t.session.client (h.ends u).1 (h.ends u).0
+    sane_sending Client = sane_data t.session.client t.session.server (h.ends u).0 (h.ends u).1
+    sane_sending Server = sane_data t.session.server t.session.client (h.ends u).1 (h.ends u).0
 
   pub sane_send : (w : Sender) (tag : ℕ) → SaneMove (send_move w tag t)
   unfolding send_move
   sane_send w tag =
-      checked_either SaneMove refuse (λ r. tt) _ (λ e. sane-sending e.0 e.1.0 e.1.1.0 tag w)
+      checked_either SaneMove refuse (λ r. tt) _ (λ e. sane_sending e.0 e.1.0 e.1.1.0 tag w)
 
   pub sane_close : SaneMove (close_move t)
   unfolding close_move closing
@@ -230,9 +230,9 @@ module _ (t : Part) (h : Sane t) where
 
   -- ---- drop
 
-  sane-dropping : (e : ℕ) → unused t ≡ false → Sane (dropping e t)
+  sane_dropping : (e : ℕ) → unused t ≡ false → Sane (dropping e t)
   unfolding dropping
-  sane-dropping e u =
+  sane_dropping e u =
       record {
         roomy = roomy_dropping t h.roomy e;
         rows = rw (held_dropping e t) (all_those RowNamed (is_other e) (held t) h.rows);
@@ -245,4 +245,4 @@ module _ (t : Part) (h : Sane t) where
 
   pub sane_drop : (e : ℕ) → SaneMove (drop_move e t)
   unfolding drop_move
-  sane_drop e = checked_either SaneMove refuse (λ r. tt) _ (λ k. sane-dropping e k.0)
+  sane_drop e = checked_either SaneMove refuse (λ r. tt) _ (λ k. sane_dropping e k.0)

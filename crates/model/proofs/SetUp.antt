@@ -25,13 +25,13 @@ use Rattle.model.specs.State.{fresh, load, put_item, applied}
 use Rattle.model.specs.Calls.{after}
 use Rattle.model.specs.Lists.{tally, All}
 use Rattle.model.proofs.Lists.{all_map, tally_none}
-use Rattle.model.proofs.Weights.{count, counted, weigh_out, weigh_wait, weigh_le, weigh_sum, weigh-at, weigh-put, free_or_pending}
+use Rattle.model.proofs.Weights.{count, counted, weigh_out, weigh_wait, weigh_le, weigh_sum, weigh_at, weigh_put, free_or_pending}
 use Rattle.model.proofs.SetUpWeights.{uses, space, carries, due, each, wanted, pends, set_up_space, pending, grant_due}
 use Rattle.model.proofs.Parts.{Numbered}
 use Rattle.model.proofs.Moves.{held_applied}
 use Rattle.model.proofs.Balance.{rule_law}
 use Rattle.model.proofs.Nodes.{network_holds}
-use Rattle.model.proofs.Roomy.{Roomy, few_rows, rows_each, step-ledger, rows_fit}
+use Rattle.model.proofs.Roomy.{Roomy, few_rows, rows_each, step_ledger, rows_fit}
 use Rattle.model.proofs.Named.{Named}
 use Rattle.model.proofs.Sane.{At, unused_none}
 use Rattle.model.proofs.Counted.{Good, users_most}
@@ -75,14 +75,14 @@ weigh_waits g (Discovery a) = omega arith
 weigh_waits g (Establishment a e) = omega arith
 
 module _ (t : Part) (h : Roomy t) where
-  put-comes : (n : ℕ) (i : Item) (g : Item → Bool) → g Free ≡ false
+  put_comes : (n : ℕ) (i : Item) (g : Item → Bool) → g Free ≡ false
       → how_many_items g (put_item t.items n i) ≡ how_many_items g t.items + tally g (i ∷ [])
-  put-comes n i g z =
+  put_comes n i g z =
       omega (
         arith,
         counted g (put_item t.items n i),
         counted g t.items,
-        weigh-put (count g) (rw z) t.items n i (omega (arith, pending t.items, h.places, h.tags, h.whole.items)),
+        weigh_put (count g) (rw z) t.items n i (omega (arith, pending t.items, h.places, h.tags, h.whole.items)),
       )
 
   pub step_finds_places : (n : Network) (standing : ℕ → ℕ → Bool) (at : ℕ) → at < 16 → is_wait (item_at t.items at) ≡ false
@@ -100,7 +100,7 @@ module _ (t : Part) (h : Roomy t) where
               counted g t.items,
               weigh_items g f.outcome,
               weigh_waits g f.wait,
-              step-ledger t h at b w f law (count g) (rw z),
+              step_ledger t h at b w f law (count g) (rw z),
             );
       }
 
@@ -130,7 +130,7 @@ holds s sound u hu =
       data_items = omega (arith, counted is_data_item l);
       item_places = k.whole.items;
       free_place = omega (arith, counted is_free l, pending l, free_or_pending l, k.whole.items);
-      written = put-comes t k;
+      written = put_comes t k;
       stepped = step_finds_places t k s.network (stands s.users false);
       row_places = k.whole.rows;
       rows = omega (
@@ -147,7 +147,7 @@ holds s sound u hu =
       packets = all_map (At (Named t.session.server)) (At HoldsPacket) (λ x. named_packet t.session.server x.item) l h.items;
       waits = λ at.
           let i = item_at l at in
-          pends i l (λ v. omega (arith, weigh-at (uses v) refl l at, k.waits v)) (wait_of i) (wanted i);
+          pends i l (λ v. omega (arith, weigh_at (uses v) refl l at, k.waits v)) (wait_of i) (wanted i);
       discs = discs_on_wires t.session.server l h.items;
       last = h.last;
       numbers = h.distinct.once;

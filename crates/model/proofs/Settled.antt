@@ -43,9 +43,9 @@ module _ (network : Network) (t : Part) (k : Settled t) where
   inactive : spent t ≡ false → All (At Inactive) t.items
   inactive l = none_tallied (λ s. is_active s.item) t.items (k l)
 
-  settled-step : (i : ℕ) → Stays (seen_move t (step_move network are_nodes i t))
+  settled_step : (i : ℕ) → Stays (seen_move t (step_move network are_nodes i t))
   unfolding step_move step_at stepped applied
-  settled-step i =
+  settled_step i =
       let at = place (is_numbered i) t.items in
       let item = item_at t.items at in
       let f = rule network are_nodes t item in
@@ -57,40 +57,40 @@ module _ (network : Network) (t : Part) (k : Settled t) where
       (all_after Inactive refl t.items t.session.last.0 at f (all_set (At Inactive) t.items at blank_slot quiet refl)
       (written_inactive f.outcome (omega (arith, (rule_law network are_nodes t item).actives, z)))))
 
-  settled-send : (w : Sender) (tag : ℕ) → Stays (seen_move t (send_move w tag t))
+  settled_send : (w : Sender) (tag : ℕ) → Stays (seen_move t (send_move w tag t))
   unfolding send_move sending
-  settled-send w tag =
+  settled_send w tag =
       checked_either (λ (m : Move). Stays (seen_move t m)) refuse (λ r. k) _
       (λ e l.
       tally_none (λ s. is_active s.item) (sending t w tag).items
       (all_put Inactive t.items (next_number t) (data_item t.session w tag) (inactive e.1.1.0) (data_inactive t.session w tag)))
 
-  settled-close : Stays (seen_move t (close_move t))
+  settled_close : Stays (seen_move t (close_move t))
   unfolding close_move closing
-  settled-close = checked_either (λ (m : Move). Stays (seen_move t m)) refuse (λ r. k) _ (λ e l. refl)
+  settled_close = checked_either (λ (m : Move). Stays (seen_move t m)) refuse (λ r. k) _ (λ e l. refl)
 
-  settled-drop : (e : ℕ) → Stays (seen_move t (drop_move e t))
+  settled_drop : (e : ℕ) → Stays (seen_move t (drop_move e t))
   unfolding drop_move dropping
-  settled-drop e = checked_either (λ (m : Move). Stays (seen_move t m)) refuse (λ r. k) _ (λ w. k)
+  settled_drop e = checked_either (λ (m : Move). Stays (seen_move t m)) refuse (λ r. k) _ (λ w. k)
 
   -- ---- a line
 
   -- an own line that opens nothing
-  line-settled : (u : ℕ) (o : Option Form) → form_names u o ≡ true → form_opens u o ≡ false → Stays (seen_parsed network t (asked o).parsed)
-  line-settled u (some (node a x has needs)) e w = never e
-  line-settled u (some (route a b next)) e w = never e
-  line-settled u (some («open» v c d)) e w = never (sym w ∙ e)
-  line-settled u (some (step v i)) e w = ranged_seen Stays network t k (is_session v && is_item i) _ (settled-step i)
-  line-settled u (some (send v x tag)) e w = ranged_seen Stays network t k (is_session v && (within 0 1 x && is_tag tag)) _ (settled-send _ tag)
-  line-settled u (some (close v)) e w = ranged_seen Stays network t k (is_session v) _ settled-close
-  line-settled u (some show) e w = never e
-  line-settled u (some net) e w = never e
-  line-settled u (some (take_down v f)) e w = ranged_seen Stays network t k (is_session v && is_establishment f) _ (settled-drop f)
-  line-settled u none e w = never e
+  line_settled : (u : ℕ) (o : Option Form) → form_names u o ≡ true → form_opens u o ≡ false → Stays (seen_parsed network t (asked o).parsed)
+  line_settled u (some (node a x has needs)) e w = never e
+  line_settled u (some (route a b next)) e w = never e
+  line_settled u (some («open» v c d)) e w = never (sym w ∙ e)
+  line_settled u (some (step v i)) e w = ranged_seen Stays network t k (is_session v && is_item i) _ (settled_step i)
+  line_settled u (some (send v x tag)) e w = ranged_seen Stays network t k (is_session v && (within 0 1 x && is_tag tag)) _ (settled_send _ tag)
+  line_settled u (some (close v)) e w = ranged_seen Stays network t k (is_session v) _ settled_close
+  line_settled u (some show) e w = never e
+  line_settled u (some net) e w = never e
+  line_settled u (some (take_down v f)) e w = ranged_seen Stays network t k (is_session v && is_establishment f) _ (settled_drop f)
+  line_settled u none e w = never e
 
-  local-settled : (u : ℕ) (c : Call) → is_own u c ≡ true → opens u c ≡ false → Stays (local network t c)
+  local_settled : (u : ℕ) (c : Call) → is_own u c ≡ true → opens u c ≡ false → Stays (local network t c)
   unfolding local
-  local-settled u c e w = either Stays (ltb c.size 65536) (λ s. k) (λ s. line-settled u (read c.line) e w)
+  local_settled u c e w = either Stays (ltb c.size 65536) (λ s. k) (λ s. line_settled u (read c.line) e w)
 
 form_grows : (u : ℕ) (l : List Slot) (n : ℕ) (o : Option Form) → form_names u o ≡ true → form_opens u o ≡ false → n ≤ form_count l n o
 form_grows u l n (some (node a x has needs)) e w = never e
@@ -111,7 +111,7 @@ pub call_settled : (u : ℕ) → Numbered u → (s : State) → Sound s → (c :
 call_settled u hu s h c w k = go (way (is_own u c))
   where
     go : Way (is_own u c) → Settled (load (call s c).state u)
-    go (is e) = subst (λ (x : Seen). Settled x.part) (sym (call_own s h.good u hu c e)) (local-settled s.network (load s u) k u c e w)
+    go (is e) = subst (λ (x : Seen). Settled x.part) (sym (call_own s h.good u hu c e)) (local_settled s.network (load s u) k u c e w)
     go (isnt e) = rw (call_others s h.good c u hu e) k
 
 pub count_grows : (u : ℕ) (s : State) (n : ℕ) (c : Call) → opens u c ≡ false → n ≤ call_count u s n c

@@ -51,12 +51,12 @@ module _ (out : Bool) (a q : ℕ) where
   abbrev is_at : ℕ → Bool
   is_at p = same_association (place_out p) (place_node p) (place_peer p) out a q
 
-  at-parts : (p : ℕ) → is_at p ≡ true → (place_out p ≡ out) × (place_node p ≡ a) × (place_peer p ≡ q)
-  at-parts p e = same_parts (place_out p) (place_node p) (place_peer p) out a q e
+  at_parts : (p : ℕ) → is_at p ≡ true → (place_out p ≡ out) × (place_node p ≡ a) × (place_peer p ≡ q)
+  at_parts p e = same_parts (place_out p) (place_node p) (place_peer p) out a q e
 
-  places-other : (k : ℕ) (l : List ℕ) → ((p : ℕ) → k ≤ p → p < k + length l → is_at p ≡ false)
+  places_other : (k : ℕ) (l : List ℕ) → ((p : ℕ) → k ≤ p → p < k + length l → is_at p ≡ false)
       → all_for out a q (entries_from association_at k l) ≡ []
-  places-other k l h =
+  places_other k l h =
       all_other out a q (entries_from association_at k l)
       (entries_all (Other out a q) association_at k l (λ p n i j. only_all (Other out a q) (ltb 0 n) (λ e. h p i j)))
 
@@ -69,22 +69,22 @@ module _ (out : Bool) (a q : ℕ) where
       go true = rw (same_itself out a q) (ap (λ (m : List ShownAssociation). shown_as out a q n ∷ m) h)
       go false = h
 
-  other-first : (p n : ℕ) (rest : List ShownAssociation) → is_at p ≡ false → all_for out a q (association_at p n ++ rest) ≡ all_for out a q rest
-  other-first p n rest e =
+  other_first : (p n : ℕ) (rest : List ShownAssociation) → is_at p ≡ false → all_for out a q (association_at p n ++ rest) ≡ all_for out a q rest
+  other_first p n rest e =
       perhaps (λ (m : List ShownAssociation). all_for out a q m ≡ all_for out a q rest) (ltb 0 n) (λ f. rw e) (λ f. refl)
 
   -- of all places, `at` alone is its place
   module _ (at : ℕ) (own : is_at at ≡ true) (others : (p : ℕ) → (p ≡ at → ⊥) → is_at p ≡ false) where
-    place-own : (j k : ℕ) (l : List ℕ) → k + j ≡ at → all_for out a q (entries_from association_at k l) ≡ association out a q (get_or l j 0)
+    place_own : (j k : ℕ) (l : List ℕ) → k + j ≡ at → all_for out a q (entries_from association_at k l) ≡ association out a q (get_or l j 0)
     unfolding entries_from
-    place-own j k [] e = refl
-    place-own zero k (n ∷ l) e =
+    place_own j k [] e = refl
+    place_own zero k (n ∷ l) e =
         let f : k ≡ at = omega arith in
-        let w = at-parts at own in
+        let w = at_parts at own in
         rw (f, w.0, w.1, w.2)
-        (own_first n (entries_from association_at (at + 1) l) (places-other (at + 1) l (λ p i j. others p (λ z. omega arith))))
-    place-own (suc j) k (n ∷ l) e =
-        other-first k n (entries_from association_at (k + 1) l) (others k (λ z. omega arith)) ∙ place-own j (k + 1) l (omega arith)
+        (own_first n (entries_from association_at (at + 1) l) (places_other (at + 1) l (λ p i j. others p (λ z. omega arith))))
+    place_own (suc j) k (n ∷ l) e =
+        other_first k n (entries_from association_at (k + 1) l) (others k (λ z. omega arith)) ∙ place_own j (k + 1) l (omega arith)
 
 -- among all of show's associations
 shown_once : (l : List ℕ) → OneForEach l (shown l)
@@ -98,15 +98,15 @@ shown_once l out a q = go (are_nodes a q) refl
         → all_for out a q (entries_from association_at 0 (take 2048 l)) ≡ association out a q (cond b (get_or l at 0) 0)
     go true e =
         let i = place_below out a q e in
-        place-own out a q at
+        place_own out a q at
         (one_place (place_out at) (place_node at) (place_peer at) out a q (nodes_at at i) e (at_place at).place)
-        (λ p ne. not_so _ (λ z. let w = at-parts out a q p z in ne (sym (at_place p).place ∙ rw (w.0, w.1, w.2) refl)))
+        (λ p ne. not_so _ (λ z. let w = at_parts out a q p z in ne (sym (at_place p).place ∙ rw (w.0, w.1, w.2) refl)))
         at 0 (take 2048 l) (omega arith)
         ∙ ap (association out a q) (get_or-take 2048 l at 0 i)
     go false e =
-        places-other out a q 0 (take 2048 l)
+        places_other out a q 0 (take 2048 l)
         (λ p i j.
-        not_so _ (λ z. let w = at-parts out a q p z in never (sym e ∙ (rw (w.1, w.2) at (nodes_at p (omega (arith, length-take 2048 l)))))))
+        not_so _ (λ z. let w = at_parts out a q p z in never (sym e ∙ (rw (w.1, w.2) at (nodes_at p (omega (arith, length-take 2048 l)))))))
 
 -- ---- the promise
 

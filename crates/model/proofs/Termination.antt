@@ -67,20 +67,20 @@ module _ (u : ℕ) (q : is_session u ≡ true) where
   hu : Numbered u
   hu = numbered u q
 
-  few-active : (s : State) (n : ℕ) → Follows u s n → how_many_items is_active (load s u).items ≤ 1
+  few_active : (s : State) (n : ℕ) → Follows u s n → how_many_items is_active (load s u).items ≤ 1
   unfolding active
-  few-active s n f = omega (arith, (f.sound.sane u hu).roomy.actives, counted is_active (load s u).items)
+  few_active s n f = omega (arith, (f.sound.sane u hu).roomy.actives, counted is_active (load s u).items)
 
   -- it is settled, or the ceiling leaves k steps at most
   abbrev Ending : State → ℕ → ℕ → Type 0
   Ending s n k = Settled (load s u) ⊎ (ceiling ≤ n + k)
 
   -- no call but an open takes it further from its end
-  calls-end : (cs : List Call) → All (λ c. opens u c ≡ false) cs → (s : State) (n : ℕ) → Follows u s n → (k : ℕ) → Ending s n k
+  calls_end : (cs : List Call) → All (λ c. opens u c ≡ false) cs → (s : State) (n : ℕ) → Follows u s n → (k : ℕ) → Ending s n k
       → Ending (after s cs) (set_up_steps u s n cs) k
   unfolding after set_up_steps
-  calls-end [] a s n f k e = e
-  calls-end (c ∷ cs) a s n f k e = calls-end cs a.1 (call s c).state (call_count u s n c) (call_follows u hu s n f c) k (go e)
+  calls_end [] a s n f k e = e
+  calls_end (c ∷ cs) a s n f k e = calls_end cs a.1 (call s c).state (call_count u s n c) (call_follows u hu s n f c) k (go e)
     where
       go : Ending s n k → Ending (call s c).state (call_count u s n c) k
       go (inl e) = inl (call_settled u hu s f.sound c a.0 e)
@@ -105,8 +105,8 @@ module _ (u : ℕ) (q : is_session u ≡ true) where
       go (isnt w) (inr g) = inr (omega (arith, its_count s f.sound u q at b e w n))
 
   -- with no step left by the ceiling
-  at-ceiling : (s : State) (n : ℕ) → Follows u s n → ceiling ≤ n → Settled (load s u)
-  at-ceiling s n f m l = go (active_steps u (load s u).items) (steps u (load s u).items (few-active s n f))
+  at_ceiling : (s : State) (n : ℕ) → Follows u s n → ceiling ≤ n → Settled (load s u)
+  at_ceiling s n f m l = go (active_steps u (load s u).items) (steps u (load s u).items (few_active s n f))
     where
       go : (cs : List Call) → Steps u (load s u).items cs → how_many_items is_active (load s u).items ≡ 0
       go cs (no_step z) = z
@@ -117,13 +117,13 @@ module _ (u : ℕ) (q : is_session u ≡ true) where
       → Ending s n (length rounds) → Settled (load (after_rounds u s rounds) u)
   unfolding after_rounds
   settle [] a s n f (inl k) = k
-  settle [] a s n f (inr k) = at-ceiling s n f (omega arith)
+  settle [] a s n f (inr k) = at_ceiling s n f (omega arith)
   settle (cs ∷ rounds) a s n f k =
       let r = after s cs in
       let l = (load r u).items in
       let g = calls_follow u hu cs s n f in
       settle rounds a.1 _ _ (calls_follow u hu (active_steps u l) r _ g)
-      (round r _ g (length rounds) (calls-end cs a.0 s n f _ k) (active_steps u l) (steps u l (few-active r _ g)))
+      (round r _ g (length rounds) (calls_end cs a.0 s n f _ k) (active_steps u l) (steps u l (few_active r _ g)))
 
   terminates : (cs : List Call) → Terminates cs u
   terminates cs =

@@ -73,20 +73,20 @@ room done left = simp length-append (omega arith)
 
 module _ (text : List ℕ) (s : State) (from : ℕ) (done left : List ℕ) (fuel : ℕ) where
   -- no call: nothing is written
-  onward-none : answered_lines fuel text (at s from done left) ≡ at s from done left
+  onward_none : answered_lines fuel text (at s from done left) ≡ at s from done left
       → (length text ≤ from + fuel → 65536 ≤ length left → NoNewline (drop from text)) → Onward text s from done left fuel
   unfolding after replies
-  onward-none e h =
+  onward_none e h =
       record { ls = []; to = from; same = rw (append-nil done) e; first = λ more. refl; all = λ x y. h x (omega arith) }
 
   -- one call, and then those behind it
-  onward-more : 65536 ≤ length left → Ended text from
+  onward_more : 65536 ≤ length left → Ended text from
       → answered_lines (suc fuel) text (at s from done left) ≡ answered_lines fuel text (one_more text (at s from done left) (next_line text from))
       → let r = reply_at text s from in
       Onward text r.state (from + line_length (drop from text) + 1) (done ++ lines_of r) (drop (length (lines_of r)) left) fuel
       → Onward text s from done left (suc fuel)
   unfolding after replies
-  onward-more h e q w =
+  onward_more h e q w =
       let k = line_length (drop from text) in
       let line = take k (drop from text) in
       let r = reply_at text s from in
@@ -103,7 +103,7 @@ module _ (text : List ℕ) (s : State) (from : ℕ) (done left : List ℕ) (fuel
 
 onward : (text : List ℕ) (s : State) (from : ℕ) (done left : List ℕ) (fuel : ℕ) → Onward text s from done left fuel
 unfolding answered_lines line_length
-onward text s from done left zero = onward-none text s from done left zero refl λ h r. rw (drop_of_length-le text {i = from} (omega arith))
+onward text s from done left zero = onward_none text s from done left zero refl λ h r. rw (drop_of_length-le text {i = from} (omega arith))
 onward text s from done left (suc fuel) =
     let r = reply_at text s from in
     go (way (is_over text (at s from done left)))
@@ -114,11 +114,11 @@ onward text s from done left (suc fuel) =
         Onward text r.state (from + line_length (drop from text) + 1) (done ++ lines_of r) (drop (length (lines_of r)) left) fuel
         → Onward text s from done left (suc fuel)
     go (is e) w =
-        onward-none text s from done left (suc fuel) (lines_over (suc fuel) text (at s from done left) e)
+        onward_none text s from done left (suc fuel) (lines_over (suc fuel) text (at s from done left) e)
         λ h r. line_last text from (or_right _ _ e (le-ltb (length (done ++ left) - length done) 65536 (omega (arith, room done left))))
     go (isnt e) w =
         let o = or_left _ _ e in
-        onward-more text s from done left fuel (omega (arith, room done left, ltb-false (length (done ++ left) - length done) 65536 o.0)) (line_ended text from o.1)
+        onward_more text s from done left fuel (omega (arith, room done left, ltb-false (length (done ++ left) - length done) 65536 o.0)) (line_ended text from o.1)
         (lines_more fuel text (at s from done left) e) w
 
 text_calls : (s : State) (text out : List ℕ) → Onward text s 0 [] out (length text) → AnswersText s text out (answered_text s text out)

@@ -71,14 +71,14 @@ none_inactive i h = go (is_active i) h
     go false h = refl
 
 module _ (P Q : Item → Type 0) (f : (i : Item) → P i → Q i) where
-  written-map : (o : Outcome) → Written P o → Written Q o
-  written-map (Wrote i) h = f i h
-  written-map (WroteByDefault i) h = f i h
-  written-map (WroteTwo i j) h = (f i h.0, f j h.1)
-  written-map (Lost k) h = tt
-  written-map Denied h = tt
-  written-map Opened h = tt
-  written-map (Delivered tag) h = tt
+  written_map : (o : Outcome) → Written P o → Written Q o
+  written_map (Wrote i) h = f i h
+  written_map (WroteByDefault i) h = f i h
+  written_map (WroteTwo i j) h = (f i h.0, f j h.1)
+  written_map (Lost k) h = tt
+  written_map Denied h = tt
+  written_map Opened h = tt
+  written_map (Delivered tag) h = tt
 
 pub written_inactive : (o : Outcome) → weigh_out active o ≤ 0 → Written Inactive o
 written_inactive (Wrote i) h = none_inactive i (omega arith)
@@ -121,10 +121,10 @@ module _ (net : Network) (t : Part) (h : Sane t) (n : ℕ) (k : Tracked net t n)
   abbrev LaterRow : Row → Type 0
   LaterRow r = Chained net t.session.client t.session.server begun r
 
-  tracked-later : (m : ℕ) → m ≤ ceiling → All (At (Later m)) rest → Written (Later m) effect.outcome
+  tracked_later : (m : ℕ) → m ≤ ceiling → All (At (Later m)) rest → Written (Later m) effect.outcome
       → All LaterRow (added_rows effect.added) → Tracked net stepped m
   unfolding applied session_after
-  tracked-later m few others written added =
+  tracked_later m few others written added =
       record {
         few = few;
         items = all_after (Later m) (λ o. never o) t.items t.session.last.0 at effect others written;
@@ -135,9 +135,9 @@ module _ (net : Network) (t : Part) (h : Sane t) (n : ℕ) (k : Tracked net t n)
       }
 
   -- the others are waits and Data
-  others-inactive : is_active item ≡ true → All (At Inactive) rest
+  others_inactive : is_active item ≡ true → All (At Inactive) rest
   unfolding active
-  others-inactive e =
+  others_inactive e =
       none_tallied (λ s. is_active s.item) rest
       (omega (
         arith,
@@ -147,24 +147,24 @@ module _ (net : Network) (t : Part) (h : Sane t) (n : ℕ) (k : Tracked net t n)
         counted is_active rest,
       ))
 
-  active-step : is_active item ≡ true → Tracked net stepped (n + 1)
-  active-step e =
+  active_step : is_active item ≡ true → Tracked net stepped (n + 1)
+  active_step e =
       let x = all_get (At (Tracks net _ _ _ n)) t.items at blank_slot k.items (λ o. never o) e in
       let next = advances net t n x.0 k.rows item x.1 in
-      tracked-later (n + 1) next.counted
-      (all_map (At Inactive) (At (Later (n + 1))) (λ s q o. never (sym q ∙ o)) rest (others-inactive e))
-      (written-map _ (Later (n + 1)) (λ i v o. (x.0, v o)) effect.outcome next.written)
+      tracked_later (n + 1) next.counted
+      (all_map (At Inactive) (At (Later (n + 1))) (λ s q o. never (sym q ∙ o)) rest (others_inactive e))
+      (written_map _ (Later (n + 1)) (λ i v o. (x.0, v o)) effect.outcome next.written)
       next.added
 
-  inactive-step : is_active item ≡ false → Tracked net stepped n
-  inactive-step e =
+  inactive_step : is_active item ≡ false → Tracked net stepped n
+  inactive_step e =
       let z = inactive_none item e in
       let same : t.session.begun ≡ begun = omega (arith, law.begins, z) in
-      tracked-later n k.few
+      tracked_later n k.few
       (subst (λ (x : ℕ). All (At (Tracks net t.session.client t.session.server x n)) rest) same
       (all_set (At (Tracks net _ _ _ n)) t.items at blank_slot k.items (λ o. never o)))
-      (written-map Inactive (Later n) (λ i q o. never (sym q ∙ o)) effect.outcome (written_inactive effect.outcome (omega (arith, law.actives, z))))
+      (written_map Inactive (Later n) (λ i q o. never (sym q ∙ o)) effect.outcome (written_inactive effect.outcome (omega (arith, law.actives, z))))
       (rw (none_added effect.added (omega (arith, law.adds, grant_active item, z))) tt)
 
   pub step_tracked : Tracked net stepped (cond (is_set_up_item item) (n + 1) n)
-  step_tracked = either (Tracked net stepped) (is_set_up_item item) (λ e. active-step (rw (e, w))) (λ e. inactive-step (rw e))
+  step_tracked = either (Tracked net stepped) (is_set_up_item item) (λ e. active_step (rw (e, w))) (λ e. inactive_step (rw e))

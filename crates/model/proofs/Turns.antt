@@ -29,7 +29,7 @@ use Rattle.model.specs.Calls.{answer, Reply, refusal_in, one_answer, requested, 
 use Rattle.model.specs.Turn.{staying, moving, users_after, session_of, requested_of, turn_of, users_with, users_of, answers_ok, network_of, report_of, lines_as, state_with, Parts, Held}
 use Rattle.model.proofs.Checks.{checked_either}
 use Rattle.model.proofs.Users.{fold_length}
-use Rattle.model.proofs.Parts.{Sized, Whole, Numbered, store-sized, load_stored, load-others}
+use Rattle.model.proofs.Parts.{Sized, Whole, Numbered, store_sized, load_stored, load_others}
 
 -- ---- a part that is stored as it was loaded changes nothing
 
@@ -74,33 +74,33 @@ module _ (s : State) (u : ℕ) where
   stays a n = rw (store_loaded s u)
 
   -- one answer, and the network n where it is (ok)
-  abbrev replyWith : Network → Moved → List ℕ → Reply
-  replyWith n m users =
+  abbrev reply_with : Network → Moved → List ℕ → Reply
+  reply_with n m users =
       record {
         state = state_with s u m (cond (answers_ok m.answer) n s.network) users;
         lines = answer m.answer;
         refusal = refusal_in m.answer;
       }
 
-  refused-whole : (r : Refusal) (n : Network) → one_answer (refused s r) ≡ replyWith n (staying (load s u) (No r)) s.users
-  refused-whole r n = rw (stays (No r) s.network)
+  refused_whole : (r : Refusal) (n : Network) → one_answer (refused s r) ≡ reply_with n (staying (load s u) (No r)) s.users
+  refused_whole r n = rw (stays (No r) s.network)
 
   -- a node or route call, with these tests and this network
-  given-whole : (cs : List Check) (n : Network)
-      → one_answer (checked (refused s) cs (accepted s n)) ≡ replyWith n (staying (load s u) (checked No cs Ok)) s.users
-  given-whole cs n =
-      checked_both (λ (t : Turn) (a : Answer). one_answer t ≡ replyWith n (staying (load s u) a) s.users) (refused s) No
-      (λ r. refused-whole r n) cs (rw (stays Ok n))
+  given_whole : (cs : List Check) (n : Network)
+      → one_answer (checked (refused s) cs (accepted s n)) ≡ reply_with n (staying (load s u) (checked No cs Ok)) s.users
+  given_whole cs n =
+      checked_both (λ (t : Turn) (a : Answer). one_answer t ≡ reply_with n (staying (load s u) a) s.users) (refused s) No
+      (λ r. refused_whole r n) cs (rw (stays Ok n))
 
   -- a session's move
-  performed-whole : (m : Move) → one_answer (performed s u m) ≡ replyWith s.network (moving (load s u) m) (users_after s.users m)
+  performed_whole : (m : Move) → one_answer (performed s u m) ≡ reply_with s.network (moving (load s u) m) (users_after s.users m)
   unfolding performed store changed state_with
-  performed-whole (refuse r) = refused-whole r s.network
-  performed-whole (moved a t c) = rw (cond_same (answers_ok a) s.network)
+  performed_whole (refuse r) = refused_whole r s.network
+  performed_whole (moved a t c) = rw (cond_same (answers_ok a) s.network)
 
   -- a move that leaves the users
-  still-whole : (m : Move) → users_after s.users m ≡ s.users → one_answer (performed s u m) ≡ replyWith s.network (moving (load s u) m) s.users
-  still-whole m e = performed-whole m ∙ ap (replyWith s.network (moving (load s u) m)) e
+  still_whole : (m : Move) → users_after s.users m ≡ s.users → one_answer (performed s u m) ≡ reply_with s.network (moving (load s u) m) s.users
+  still_whole m e = performed_whole m ∙ ap (reply_with s.network (moving (load s u) m)) e
 
 -- an open and a send move no rows
 open_still : (users : List ℕ) (n : Network) (c d : ℕ) (t : Part) → users_after users (open_move n c d t) ≡ users
@@ -116,16 +116,16 @@ parsed_whole : (s : State) (has needs : List Bool) (p : Parsed)
     replied s has needs p
     ≡ reply_of s (record { parsed = p; has = has; needs = needs }) (turn_of s.opened s.network s.users t p) (users_of s.network s.users t p)
 unfolding requested requested_of users_with node_turn route_turn
-parsed_whole s has needs (Asks (Node a k)) = given-whole s 1 _ _
-parsed_whole s has needs (Asks (Route a b n)) = given-whole s 1 _ _
-parsed_whole s has needs (Asks (Open u c d)) = still-whole s u.0 _ (open_still s.users s.network c d (load s u.0))
-parsed_whole s has needs (Asks (Step u k)) = performed-whole s u.0 _
-parsed_whole s has needs (Asks (Send u w tag)) = still-whole s u.0 _ (send_still s.users w tag (load s u.0))
-parsed_whole s has needs (Asks (Close u)) = performed-whole s u.0 _
+parsed_whole s has needs (Asks (Node a k)) = given_whole s 1 _ _
+parsed_whole s has needs (Asks (Route a b n)) = given_whole s 1 _ _
+parsed_whole s has needs (Asks (Open u c d)) = still_whole s u.0 _ (open_still s.users s.network c d (load s u.0))
+parsed_whole s has needs (Asks (Step u k)) = performed_whole s u.0 _
+parsed_whole s has needs (Asks (Send u w tag)) = still_whole s u.0 _ (send_still s.users w tag (load s u.0))
+parsed_whole s has needs (Asks (Close u)) = performed_whole s u.0 _
 parsed_whole s has needs (Asks Show) = rw (stays s 1 Ok s.network)
 parsed_whole s has needs (Asks Net) = rw (stays s 1 Ok s.network)
-parsed_whole s has needs (Asks (Drop u e)) = performed-whole s u.0 _
-parsed_whole s has needs (Refused r) = refused-whole s 1 r s.network
+parsed_whole s has needs (Asks (Drop u e)) = performed_whole s u.0 _
+parsed_whole s has needs (Refused r) = refused_whole s 1 r s.network
 
 -- what `Calls` says of a line that was read is what `Turn` says of it in pieces
 pub turn_whole : (s : State) (r : Reading)
@@ -137,8 +137,8 @@ turn_whole s r = parsed_whole s r.has r.needs r.parsed
 
 -- what a turn leaves is stored in the state, and among the parts
 module _ {s : State} {parts : List Part} (hs : Sized s) (h : Parts s parts) (u : ℕ) (hu : Numbered u) (m : Moved) (hm : Whole m.part) where
-  each-stored : (v : ℕ) → v < 8 → (t : Part) → get_or (set parts (u - 1) m.part) v t ≡ load (store s u m.part) (v + 1)
-  each-stored v k t = go (ℕ_discrete v (u - 1))
+  each_stored : (v : ℕ) → v < 8 → (t : Part) → get_or (set parts (u - 1) m.part) v t ≡ load (store s u m.part) (v + 1)
+  each_stored v k t = go (ℕ_discrete v (u - 1))
     where
       go : Dec (v ≡ u - 1) → get_or (set parts (u - 1) m.part) v t ≡ load (store s u m.part) (v + 1)
       go (yes e) =
@@ -147,16 +147,16 @@ module _ {s : State} {parts : List Part} (hs : Sized s) (h : Parts s parts) (u :
       go (no e) =
           get_or-set_other parts (u - 1) v m.part t e
           ∙ h.each v k t
-          ∙ sym (load-others s hs m.part hm (v + 1) u (omega arith) hu (λ w. e (omega arith)))
+          ∙ sym (load_others s hs m.part hm (v + 1) u (omega arith) hu (λ w. e (omega arith)))
 
-  left-held : (n : Network) (left : List ℕ) → Held (state_with s u m n left) (m.opens || s.opened) n (set parts (u - 1) m.part) left
+  left_held : (n : Network) (left : List ℕ) → Held (state_with s u m n left) (m.opens || s.opened) n (set parts (u - 1) m.part) left
   unfolding state_with load
-  left-held n left =
-      record { opens = refl; network = refl; own = record { many = length-set parts (u - 1) m.part ∙ h.many; each = each-stored }; shared = refl }
+  left_held n left =
+      record { opens = refl; network = refl; own = record { many = length-set parts (u - 1) m.part ∙ h.many; each = each_stored }; shared = refl }
 
-  left-sized : (n : Network) (left : List ℕ) → length left ≡ 2048 → Sized (state_with s u m n left)
+  left_sized : (n : Network) (left : List ℕ) → length left ≡ 2048 → Sized (state_with s u m n left)
   unfolding state_with
-  left-sized n left k = omega (arith, store-sized s hs m.part hm u hu)
+  left_sized n left k = omega (arith, store_sized s hs m.part hm u hu)
 
 -- the pieces that the code has after the call hold the state that the call leaves
 pub record Further (s : State) (r : Reading) (opened : Bool) (n : Network) (parts : List Part) (users : List ℕ) (m : Moved) (left : List ℕ) : Type 0 where
@@ -208,8 +208,8 @@ module _ {s : State} {opened : Bool} {n : Network} {parts : List Part} {users : 
       go =
           let e = ap (λ (x : Reply). x.state) reply in
           record {
-            sized = rw e (left-sized hs h.own (session_of r.parsed) hu m hm _ left size);
-            held = rw e (left-held hs h.own (session_of r.parsed) hu m hm _ left);
+            sized = rw e (left_sized hs h.own (session_of r.parsed) hu m hm _ left size);
+            held = rw e (left_held hs h.own (session_of r.parsed) hu m hm _ left);
             lines = ap (λ (x : Reply). x.lines) reply;
           }
 

@@ -26,7 +26,7 @@ module _ (net : Network) (c d : ℕ) where
 
   -- the client is a host, and not the server
   pub record Ends : Type 0 where
-    pub no-gateway : is_gateway net c ≡ false
+    pub no_gateway : is_gateway net c ≡ false
     pub apart : c ≡ d → ⊥
 
   -- with b establishments begun, a Disc at a with h hops left knows the point where it will be discovered
@@ -57,17 +57,17 @@ module _ (net : Network) (c d : ℕ) where
     discovering : (a h : ℕ) → Discovering b n a h → Underway b n (Wire a (bare_with c d (Disc (point b)) h))
     establishing : (i : ℕ) → Begun b i → Leaves b n (6 + trip_steps + trip_steps) → Underway b n (Est (point b) (point i) b)
     requesting : {j : ℕ} {x : Item} (i : ℕ) → Begun b i → Trip (point b) (point i) (Req b) j x → Leaves b n (5 + trip_steps + j) → Underway b n x
-    responderAuth : (i : ℕ) → Begun b i → Leaves b n (5 + trip_steps) → Underway b n (Auth (point i) (point b) b Responder)
-    responderGrant : (i : ℕ) → Begun b i → Leaves b n (4 + trip_steps) → Underway b n (Grant (point i) (point b) b Responder)
+    responder_auth : (i : ℕ) → Begun b i → Leaves b n (5 + trip_steps) → Underway b n (Auth (point i) (point b) b Responder)
+    responder_grant : (i : ℕ) → Begun b i → Leaves b n (4 + trip_steps) → Underway b n (Grant (point i) (point b) b Responder)
     replying : {j : ℕ} {x : Item} (i : ℕ) → Begun b i → Trip (point i) (point b) (Rep b) j x → Leaves b n (3 + j) → Underway b n x
-    initiatorAuth : (i : ℕ) → Begun b i → Leaves b n 3 → Underway b n (Auth (point b) (point i) b Initiator)
-    initiatorGrant : (i : ℕ) → Begun b i → Leaves b n 2 → Underway b n (Grant (point b) (point i) b Initiator)
+    initiator_auth : (i : ℕ) → Begun b i → Leaves b n 3 → Underway b n (Auth (point b) (point i) b Initiator)
+    initiator_grant : (i : ℕ) → Begun b i → Leaves b n 2 → Underway b n (Grant (point b) (point i) b Initiator)
     acknowledging : (i : ℕ) → Begun b i → Leaves b n 1 → Underway b n (Ack (point b) b)
     -- a Done with the inner count m, at x, point k, or in the tunnel out of there: a way for each tunnel from there to the client
-    doneOut : (m x k : ℕ) → m ≤ hop_limit → Returning b x k → trip_steps * k + n ≤ ceiling → Underway b n (Out x (bare_with d c Done m))
-    doneOnWire : (m k : ℕ) (h : Header) (y : ℕ) → m ≤ hop_limit → is_bare h ≡ false → Returning b h.from k
+    done_out : (m x k : ℕ) → m ≤ hop_limit → Returning b x k → trip_steps * k + n ≤ ceiling → Underway b n (Out x (bare_with d c Done m))
+    done_on_wire : (m k : ℕ) (h : Header) (y : ℕ) → m ≤ hop_limit → is_bare h ≡ false → Returning b h.from k
         → trip_steps * (k - 1) + (h.hops + 2) + n ≤ ceiling → Underway b n (Wire y (under (bare_with d c Done m) h))
-    doneUp : (m k : ℕ) (h : Header) (y : ℕ) → m ≤ hop_limit → is_bare h ≡ false → Returning b h.from k
+    done_up : (m k : ℕ) (h : Header) (y : ℕ) → m ≤ hop_limit → is_bare h ≡ false → Returning b h.from k
         → trip_steps * (k - 1) + 1 + n ≤ ceiling → Underway b n (Up y (under (bare_with d c Done m) h))
     -- with no tunnel out of a point it is on its last way
-    doneBare : {j : ℕ} {x : Item} → Trip d c Done j x → j < trip_steps → j + n ≤ ceiling → Underway b n x
+    done_bare : {j : ℕ} {x : Item} → Trip d c Done j x → j < trip_steps → j + n ≤ ceiling → Underway b n x

@@ -40,11 +40,11 @@ clash_back : (n m : Network) → Consistent n → Consistent m → clash n m ≡
 clash_back n m h k e = (clash_exactly m n k h).1 (agree_sym n m ((clash_exactly n m h k).0 e))
 
 module _ (n m : Network) (h : Consistent n) (k : Consistent m) where
-  agree-joined : Agree n m → join_networks n m ≡ network_reply (union n m)
-  agree-joined g = rw ((clash_exactly n m h k).1 g)
+  agree_joined : Agree n m → join_networks n m ≡ network_reply (union n m)
+  agree_joined g = rw ((clash_exactly n m h k).1 g)
 
-  joined-comm : join_networks n m ≡ join_networks m n
-  joined-comm = go (way (clash n m)) (way (clash m n))
+  joined_comm : join_networks n m ≡ join_networks m n
+  joined_comm = go (way (clash n m)) (way (clash m n))
     where
       go : Way (clash n m) → Way (clash m n) → join_networks n m ≡ join_networks m n
       go (isnt e) f = rw (e, clash_back n m h k e) (ap network_reply (union_comm n m h k ((clash_exactly n m h k).0 e)))
@@ -79,7 +79,7 @@ text_join n m size h k e = rw (le-ltb size 65536 e, text_sorted n h, text_sorted
 
 agree_join : (n m : Network) (size : ℕ) → Consistent n → Consistent m → 65536 ≤ size → Agree n m
     → join (some (network_text n)) (some (network_text m)) size ≡ network_reply (union n m)
-agree_join n m size h k e g = text_join n m size h k e ∙ agree-joined n m h k g
+agree_join n m size h k e g = text_join n m size h k e ∙ agree_joined n m h k g
 
 clash_join : (n m : Network) (size : ℕ) → Consistent n → Consistent m → 65536 ≤ size → (Agree n m → ⊥)
     → join (some (network_text n)) (some (network_text m)) size ≡ refused_join Clash
@@ -110,7 +110,7 @@ unsorted_exactly f g size h = rw (le-ltb size 65536 h) (go (way (is_sorted f && 
 
 join_comm : (f g : File) (size : ℕ) → join f g size ≡ join g f size
 unfolding join
-join_comm f g size = rw (and_comm (is_sorted f) (is_sorted g), joined-comm (file_network f) (file_network g) (file_consistent f) (file_consistent g))
+join_comm f g size = rw (and_comm (is_sorted f) (is_sorted g), joined_comm (file_network f) (file_network g) (file_consistent f) (file_consistent g))
 
 -- a refusal's line is short, and a text of a network fits
 abbrev Fits : JoinReply → Type 0

@@ -51,10 +51,10 @@ module _ (out : Bool) (a q : ℕ) (h : are_nodes a q ≡ true) where
   abbrev at : ℕ
   at = users_place out a q
 
-  with-users : (f : ℕ → ℕ) (l : List ℕ) (r : Row) → length l ≡ 2048
+  with_users_lem : (f : ℕ → ℕ) (l : List ℕ) (r : Row) → length l ≡ 2048
       → users_of (with_users f l r) out a q ≡ cond (names out a q r) (f (users_of l out a q)) (users_of l out a q)
   unfolding users_of with_users
-  with-users f l r hl = rw h (go (are_nodes r.node r.peers.first) refl (names out a q r) refl)
+  with_users_lem f l r hl = rw h (go (are_nodes r.node r.peers.first) refl (names out a q r) refl)
     where
       go : (b : Bool) → are_nodes r.node r.peers.first ≡ b → (c : Bool) → names out a q r ≡ c
           → get_or (cond b (set l (row_place r) (f (get_or l (row_place r) 0))) l) at 0 ≡ cond c (f (get_or l at 0)) (get_or l at 0)
@@ -87,7 +87,7 @@ module _ (out : Bool) (a q : ℕ) (h : are_nodes a q ≡ true) where
   unfolding how_many
   raised_users [] l hl k = omega arith
   raised_users (r ∷ rs) l hl k =
-      let e = with-users out a q h one_more l r hl ∙ more_one (names out a q r) (users_of l out a q) (omega arith) in
+      let e = with_users_lem out a q h one_more l r hl ∙ more_one (names out a q r) (users_of l out a q) (omega arith) in
       let b = one_le (names out a q r) in
       omega (arith, raised_users rs (with_users one_more l r) (with_length one_more l r ∙ hl) (omega arith))
 
@@ -96,6 +96,6 @@ module _ (out : Bool) (a q : ℕ) (h : are_nodes a q ≡ true) where
   unfolding how_many
   lowered_users [] l hl k = omega arith
   lowered_users (r ∷ rs) l hl k =
-      let e = with-users out a q h one_less l r hl in
+      let e = with_users_lem out a q h one_less l r hl in
       let d = less_one (names out a q r) (users_of l out a q) (omega arith) in
       omega (arith, lowered_users rs (with_users one_less l r) (with_length one_less l r ∙ hl) (omega arith))

@@ -163,33 +163,33 @@ module _ (w : Item → ℕ) where
   weigh_set (s ∷ l) (suc i) x h = omega (arith, weigh_set l i x (omega arith))
 
   -- x in the first place of an item of which f holds, that is i
-  weigh-first : (f : Item → Bool) (i : Item) → ((j : Item) → f j ≡ true → j ≡ i) → (l : List Slot) (x : Slot) → 1 ≤ weigh (count f) l
+  weigh_first : (f : Item → Bool) (i : Item) → ((j : Item) → f j ≡ true → j ≡ i) → (l : List Slot) (x : Slot) → 1 ≤ weigh (count f) l
       → weigh w (set l (first f l) x) + w i ≡ weigh w l + w x.item
-  weigh-first f i is l x h =
+  weigh_first f i is l x h =
       let k = found f l h in
       omega (arith, ap w (is (item_at l (first f l)) k.1), weigh_set l (first f l) x k.0)
 
   module _ (z : w Free ≡ 0) where
-    pub weigh-at : (l : List Slot) (i : ℕ) → w (item_at l i) ≤ weigh w l
+    pub weigh_at : (l : List Slot) (i : ℕ) → w (item_at l i) ≤ weigh w l
     unfolding weigh
-    weigh-at [] i = omega (arith, z)
-    weigh-at (s ∷ l) zero = omega arith
-    weigh-at (s ∷ l) (suc i) = omega (arith, weigh-at l i)
+    weigh_at [] i = omega (arith, z)
+    weigh_at (s ∷ l) zero = omega arith
+    weigh_at (s ∷ l) (suc i) = omega (arith, weigh_at l i)
 
-    pub weigh-put : (l : List Slot) (n : ℕ) (i : Item) → weigh (count is_pending) l < length l → weigh w (put_item l n i) ≡ weigh w l + w i
+    pub weigh_put : (l : List Slot) (n : ℕ) (i : Item) → weigh (count is_pending) l < length l → weigh w (put_item l n i) ≡ weigh w l + w i
     unfolding put_item
-    weigh-put l n i h =
-        omega (arith, z, weigh-first is_free Free free_is l (record { number = record { 0 = n }; item = i }) (omega (arith, free_or_pending l)))
+    weigh_put l n i h =
+        omega (arith, z, weigh_first is_free Free free_is l (record { number = record { 0 = n }; item = i }) (omega (arith, free_or_pending l)))
 
-    weigh-used : (l : List Slot) (v : Wait) → 1 ≤ how_many_items (is_that_wait v) l → weigh w (use_up l v) + w (wait_item v) ≡ weigh w l
+    weigh_used : (l : List Slot) (v : Wait) → 1 ≤ how_many_items (is_that_wait v) l → weigh w (use_up l v) + w (wait_item v) ≡ weigh w l
     unfolding use_up
-    weigh-used l v h =
-        omega (arith, z, weigh-first (is_that_wait v) (wait_item v) (wait_is v) l blank_slot (omega (arith, counted (is_that_wait v) l)))
+    weigh_used l v h =
+        omega (arith, z, weigh_first (is_that_wait v) (wait_item v) (wait_is v) l blank_slot (omega (arith, counted (is_that_wait v) l)))
 
-    weigh-use : (l : List Slot) (v : Wait) → Pends l v → weigh w (use_up l v) + weigh_wait w v ≡ weigh w l
-    weigh-use l NoWait h = rw use_none (omega arith)
-    weigh-use l (Discovery a) h = weigh-used l (Discovery a) h
-    weigh-use l (Establishment a e) h = weigh-used l (Establishment a e) h
+    weigh_use : (l : List Slot) (v : Wait) → Pends l v → weigh w (use_up l v) + weigh_wait w v ≡ weigh w l
+    weigh_use l NoWait h = rw use_none (omega arith)
+    weigh_use l (Discovery a) h = weigh_used l (Discovery a) h
+    weigh_use l (Establishment a e) h = weigh_used l (Establishment a e) h
 
 -- ---- lengths
 
@@ -217,19 +217,19 @@ length_after l n at f = simp (length_written, length_use, length-set)
 -- ---- the ledger of a step
 
 module _ (w : Item → ℕ) (z : w Free ≡ 0) where
-  weigh-written : (l : List Slot) (n : ℕ) (o : Outcome) → weigh (count is_pending) l + written_count o ≤ length l
+  weigh_written : (l : List Slot) (n : ℕ) (o : Outcome) → weigh (count is_pending) l + written_count o ≤ length l
       → weigh w (written l n o) ≡ weigh w l + weigh_out w o
-  weigh-written l n (Wrote i) h = weigh-put w z l (n + 1) i (omega arith)
-  weigh-written l n (WroteByDefault i) h = weigh-put w z l (n + 1) i (omega arith)
-  weigh-written l n (WroteTwo i j) h =
-      let room = weigh-put (count is_pending) refl l (n + 1) i (omega arith) in
-      weigh-put w z (put_item l (n + 1) i) _ j (omega (arith, room, one_le (is_pending i), length_put l (n + 1) i))
-      ∙ ap (λ (x : ℕ). x + w j) (weigh-put w z l (n + 1) i (omega arith))
+  weigh_written l n (Wrote i) h = weigh_put w z l (n + 1) i (omega arith)
+  weigh_written l n (WroteByDefault i) h = weigh_put w z l (n + 1) i (omega arith)
+  weigh_written l n (WroteTwo i j) h =
+      let room = weigh_put (count is_pending) refl l (n + 1) i (omega arith) in
+      weigh_put w z (put_item l (n + 1) i) _ j (omega (arith, room, one_le (is_pending i), length_put l (n + 1) i))
+      ∙ ap (λ (x : ℕ). x + w j) (weigh_put w z l (n + 1) i (omega arith))
       ∙ omega arith
-  weigh-written l n (Lost k) h = omega arith
-  weigh-written l n Denied h = omega arith
-  weigh-written l n Opened h = omega arith
-  weigh-written l n (Delivered tag) h = omega arith
+  weigh_written l n (Lost k) h = omega arith
+  weigh_written l n Denied h = omega arith
+  weigh_written l n Opened h = omega arith
+  weigh_written l n (Delivered tag) h = omega arith
 
   -- with the stepped item and the wait gone, the items written come in whole
   pub ledger : (l : List Slot) (n at : ℕ) (f : Effect) → at < length l → Pends (set l at blank_slot) f.wait
@@ -240,12 +240,12 @@ module _ (w : Item → ℕ) (z : w Free ≡ 0) where
       let rest = set l at blank_slot in
       let used = use_up rest f.wait in
       let taken = weigh_set (count is_pending) l at blank_slot h in
-      let used-up = weigh-use (count is_pending) refl rest f.wait p in
+      let used-up = weigh_use (count is_pending) refl rest f.wait p in
       let size : length used ≡ length l = simp (length_use, length-set) in
       omega (
         arith,
         z,
         weigh_set w l at blank_slot h,
-        weigh-use w z rest f.wait p,
-        weigh-written used n f.outcome (omega (arith, taken, used-up)),
+        weigh_use w z rest f.wait p,
+        weigh_written used n f.outcome (omega (arith, taken, used-up)),
       )

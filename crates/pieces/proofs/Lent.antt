@@ -53,8 +53,8 @@ module _ (s : State) (from to : ℕ) (l out left : List ℕ) (a : Answered) (h :
       rw (same.answered, same.output) (omega (arith, w.0, length-slice from to l k), w.1)
 
   -- the stream as the model has it, by what the calls left
-  after-lent : after_event (stream_at s from to l) (lent out) ≡ record { state = a.state; unread = kept (slice (next from a) to l); written = take a.written left }
-  after-lent = rw (same.answered, same.output, drop-drop _ from (take to l))
+  after_lent : after_event (stream_at s from to l) (lent out) ≡ record { state = a.state; unread = kept (slice (next from a) to l); written = take a.written left }
+  after_lent = rw (same.answered, same.output, drop-drop _ from (take to l))
 
   count : length (take a.written left) ≡ a.written
   count = length-take-le a.written left calls_inside.1
@@ -68,7 +68,7 @@ module _ (s : State) (from to : ℕ) (l out left : List ℕ) (a : Answered) (h :
   answer_line f =
       let v = slice (next from a) to l in
       let g : has_line v ≡ true = rw part at f in
-      let t : after_event (stream_at s from to l) (lent out) ≡ record { state = a.state; unread = v; written = take a.written left } = after-lent ∙ rw g in
+      let t : after_event (stream_at s from to l) (lent out) ≡ record { state = a.state; unread = v; written = take a.written left } = after_lent ∙ rw g in
       let start : to - length v ≡ next from a = omega (arith, length-slice (next from a) to l k, calls_inside.0) in
       rw (into_line (stream_at s from to l) to l out t g) (record { progress = rw (start, count); buffer = refl; output = left_after })
 
@@ -80,6 +80,6 @@ module _ (s : State) (from to : ℕ) (l out left : List ℕ) (a : Answered) (h :
       let front = take n (drop (next from a) l) in
       let g : has_line v ≡ false = rw part at f in
       let u : take too_long v ≡ front = rw (← part (next from a) to l, take_least too_long (to - next from a) (drop (next from a) l), w.count) in
-      let t : after_event (stream_at s from to l) (lent out) ≡ record { state = a.state; unread = front; written = take a.written left } = after-lent ∙ rw (g, u) in
+      let t : after_event (stream_at s from to l) (lent out) ≡ record { state = a.state; unread = front; written = take a.written left } = after_lent ∙ rw (g, u) in
       let size : length front ≡ n = length-take-le n (drop (next from a) l) (omega (arith, length-drop (next from a) l, w.count, calls_inside.0)) in
       rw (into_none (stream_at s from to l) to l out t (rw u at (none_kept v g))) (record { progress = rw (size, count); buffer = rw size w.bytes; output = left_after })

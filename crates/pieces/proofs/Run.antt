@@ -31,8 +31,8 @@ record Holds (t : Stream) (a : Advanced) : Type 0 where
   pub bounded : a.progress.wants ≡ true → a.progress.to ≤ too_long
 
 module _ (s : Stream) (from to : ℕ) (l out : List ℕ) (k : to ≤ length l) (e : s.unread ≡ slice from to l) where
-  answered-holds : Holds (after_event s (lent out)) (answered_into s to l out)
-  answered-holds = go (way (has_line (after_event s (lent out)).unread))
+  answered_holds : Holds (after_event s (lent out)) (answered_into s to l out)
+  answered_holds = go (way (has_line (after_event s (lent out)).unread))
     where
       go : Way (has_line (after_event s (lent out)).unread) → Holds (after_event s (lent out)) (answered_into s to l out)
       go (is g) =
@@ -83,9 +83,9 @@ followed_none l = record { events = []; stream = refl; came = refl; none = λ q.
 
 module _ {input written l : List ℕ} {p : Progress} (w : Followed input written l p) (l₁ out : List ℕ) (got : ℕ) (e : take p.to l₁ ≡ take p.to l) where
   -- a piece comes and an output is lent
-  followed-holds : (a : Advanced) → let piece = take got (drop p.to l₁) in Holds (after_event (after_event (stream_of p l₁) (arrives piece)) (lent out)) a
+  followed_holds : (a : Advanced) → let piece = take got (drop p.to l₁) in Holds (after_event (after_event (stream_of p l₁) (arrives piece)) (lent out)) a
       → Followed (input ++ piece) (written ++ written_by a) a.input a.progress
-  followed-holds a h =
+  followed_holds a h =
       let piece = take got (drop p.to l₁) in
       let es = arrives piece ∷ lent out ∷ [] in
       let t = after_event (after_event (stream_of p l₁) (arrives piece)) (lent out) in
@@ -98,29 +98,29 @@ module _ {input written l : List ℕ} {p : Progress} (w : Followed input written
         bounded = h.bounded;
       }
 
-  followed-more : is_end p got ≡ false
+  followed_more : is_end p got ≡ false
       → Followed (input ++ take got (drop p.to l₁)) (written ++ written_by (advanced p got l₁ out)) (advanced p got l₁ out).input (advanced p got l₁ out).progress
   unfolding advanced
-  followed-more f =
-      followed-holds (advanced p got l₁ out)
-      (rw f (answered-holds (after_event (stream_of p l₁) (arrives (take got (drop p.to l₁)))) (min p.from (min p.to (length l₁))) (min (p.to + got) (length l₁)) l₁ out
+  followed_more f =
+      followed_holds (advanced p got l₁ out)
+      (rw f (answered_holds (after_event (stream_of p l₁) (arrives (take got (drop p.to l₁)))) (min p.from (min p.to (length l₁))) (min (p.to + got) (length l₁)) l₁ out
       (omega arith) (sym (part_more p.from p.to got l₁))))
 
-  followed-ended : is_end p got ≡ true → 65536 ≤ length out
+  followed_ended : is_end p got ≡ true → 65536 ≤ length out
       → let a = advanced p got l₁ out in
       (written ++ written_by a ≡ answers_to fresh (lines input)) × (a.progress.state ≡ after_lines fresh (lines input)) × (a.progress.over ≡ true)
   unfolding advanced ended
-  followed-ended f h =
+  followed_ended f h =
       let all = (rw (w.stream, w.came) at (streams.ended fresh w.events (length out))) (w.none (both _ _ f).0) h in
       rw (f, e) (rw take-append_seam all.0, all.1, refl)
 
 followed : {input written l : List ℕ} {p : Progress} → Run input written l p → Followed input written l p
 followed (begun l) = followed_none l
-followed (went w l₁ out got e f) = followed-more (followed w) l₁ out got e f
+followed (went w l₁ out got e f) = followed_more (followed w) l₁ out got e f
 
 pub runs : Runs
 runs =
     record {
-      ended = λ w l₁ out got e f h. followed-ended (followed w) l₁ out got e f h;
+      ended = λ w l₁ out got e f h. followed_ended (followed w) l₁ out got e f h;
       bounded = λ w q. (followed w).bounded q;
     }

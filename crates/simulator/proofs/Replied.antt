@@ -39,9 +39,9 @@ replies {out} {n = n} m h r =
 module _ (s : State) (line : List ℕ) (r : Reading) (er : r ≡ asked (read line)) (u : ℕ) (eu : u ≡ session_of r.parsed) (m : Moved)
     (users : List ℕ) (em : m ≡ turn_of s.opened s.network s.users (load s u) r.parsed)
     (el : users ≡ users_of s.network s.users (load s u) r.parsed) where
-  answered-turn : (size : ℕ) → 65536 ≤ size → answered s line size ≡ reply_of s r m users
+  answered_turn : (size : ℕ) → 65536 ≤ size → answered s line size ≡ reply_of s r m users
   unfolding answered
-  answered-turn size h = rw (le-ltb size 65536 h, ← er, em, el, eu) (turn_whole s r)
+  answered_turn size h = rw (le-ltb size 65536 h, ← er, em, el, eu) (turn_whole s r)
 
   pub replied : {out left : List ℕ} → 65536 ≤ length out → {written : ℕ}
       → Writes 65536 out 0 (lines_text (lines_as s.network users m.answer (report_of r.parsed))) left written
@@ -56,4 +56,4 @@ module _ (s : State) (line : List ℕ) (r : Reading) (er : r ≡ asked (read lin
       })
   unfolding state_with
   replied {out} h p next es opened eo n en status et =
-      rw (answered-turn (length out) h, es, eo, en, et, eu) (replies (reply_of s r m users) h p)
+      rw (answered_turn (length out) h, es, eo, en, et, eu) (replies (reply_of s r m users) h p)

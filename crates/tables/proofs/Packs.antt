@@ -10,7 +10,7 @@ use Rattle.calculus.specs.declared.state.Part.{Part}
 use Rattle.calculus.specs.declared.state.State.{State}
 use Rattle.model.specs.State.{load, store}
 use Rattle.model.specs.Turn.{Parts, Held}
-use Rattle.model.proofs.Parts.{Sized, Whole, store-sized, load_stored, load-others}
+use Rattle.model.proofs.Parts.{Sized, Whole, store_sized, load_stored, load_others}
 use Rattle.tables.proofs.Sizes.{Eight}
 
 -- of eight parts, the first i are those of s
@@ -67,7 +67,7 @@ module _ {s : State} {parts : List Part} {r : State} {i : ℕ} (w : Packed s par
   pub packed_more : i < 8 → (z : Part) → Packed s parts (store r (i + 1) (get_or parts i z)) (i + 1)
   packed_more k z =
       record {
-        sized = store-sized r w.sized (get_or parts i z) h (i + 1) (omega arith);
+        sized = store_sized r w.sized (get_or parts i z) h (i + 1) (omega arith);
         eight = w.eight;
         own = record { many = w.eight.many; each = λ u q t. go u t (dec_lt u i) (omega arith) };
         shared = store_shared w.shared (i + 1) (get_or parts i z);
@@ -79,7 +79,7 @@ module _ {s : State} {parts : List Part} {r : State} {i : ℕ} (w : Packed s par
       go : (u : ℕ) (t : Part) → Dec (u < i) → u ≤ i → get_or parts u t ≡ load (store r (i + 1) (get_or parts i z)) (u + 1)
       go u t (yes p) q =
           w.own.each u p t
-          ∙ sym (load-others r w.sized (get_or parts i z) h (u + 1) (i + 1) (omega arith) (omega arith) (λ e. omega arith))
+          ∙ sym (load_others r w.sized (get_or parts i z) h (u + 1) (i + 1) (omega arith) (omega arith) (λ e. omega arith))
       go u t (no p) q =
           let f : u ≡ i = omega arith in
           rw f
