@@ -98,3 +98,6 @@ pub number_first : (most : ℕ) (l : List ℕ) → (length l ≡ 0 → ⊥)
 unfolding number
 number_first most [] h = absurd (h refl)
 number_first most (c ∷ l) h = refl
+
+pub number_zero : (most : ℕ) (l : List ℕ) → (length l ≡ 0 → ⊥) → get_or l 0 0 ≡ 48 → Found 0 1 ≡ number most l
+number_zero most l h e = rw (eq-eqb (get_or l 0 0) 48 e) at (number_first most l h)

@@ -69,6 +69,7 @@ fn read_form(s: &[u8]) -> Reading
 }
 
 // What `line`, the bytes before its newline, asks; refusal 1 where it is no form, 2 where a number is out of range.
+#[tactic(auto, unfolding(crate::specs::Read::read))]
 pub fn read(line: &[u8]) -> Reading
     ensures { result ≡ asked (spec.read line.now) }
 {

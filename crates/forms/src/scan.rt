@@ -53,6 +53,7 @@ fn wide(c: u8) -> u64
 }
 
 // The number at the front of `s` whose first digit has the value `first`.
+#[tactic(auto, using(crate::proofs::Loops::scanned_long))]
 fn number_after(s: &[u8], first: u64) -> Number
     requires { (first < 10) × (0 < length s.now) }
     ensures { result ≡ spec.scan 10 first 1 (drop 1 s.now) }
@@ -76,6 +77,7 @@ fn number_after(s: &[u8], first: u64) -> Number
 }
 
 // The number at the front of `s`.
+#[tactic(auto, using(crate::proofs::Loops::number_zero))]
 pub fn read_number(s: &[u8]) -> Number
     ensures { result ≡ spec.number 10 s.now }
 {

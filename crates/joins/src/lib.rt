@@ -86,6 +86,7 @@ fn join_networks<'a>(a: &'a [u8], b: &'a [u8], n: Network, m: Network, out: &mut
 
 // Joins two files, each read or not, into the front of `out`; the other bytes of `out` stay. Refusal 0 where `out` has fewer than
 // 65,536 bytes, then 15, then 14.
+#[tactic(auto, unfolding(model::specs::Join::join))]
 pub fn join<'a>(
     is_a_read: bool,
     a: &'a [u8],

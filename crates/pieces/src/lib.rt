@@ -91,6 +91,7 @@ fn answer(p: Progress, input: &mut [u8], from: usize, to: usize, out: &mut [u8])
 }
 
 // The end of the input: the bytes from `from` up to `to` are a line too, if there are any.
+#[tactic(auto, using(crate::proofs::Rounds::finish_none))]
 fn finish(p: Progress, input: &[u8], from: usize, to: usize, out: &mut [u8]) -> Progress
     requires { (from ≤ to) × (to ≤ length input.now) }
     ensures { Advances (ended (stream_at p.state from to input.now) input.now out.old) input.now out.new result }

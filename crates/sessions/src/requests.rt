@@ -125,6 +125,7 @@ pub fn open(n: Network, t: Part, c: u8, d: u8) -> Moved
 // ---- step
 
 // A step of the item at `at`, or of none where that is past the places: refusals 7, 11, 12, 10.
+#[tactic(auto, unfolding(model::specs::Requests::step_at, model::specs::Requests::checked))]
 fn step_at(n: Network, users: &mut [u16; 2048], t: Part, at: usize) -> Moved
     ensures { Moves users.old t (spec.step_at n (stands users.old false) t at) users.new result }
 {

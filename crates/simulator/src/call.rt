@@ -45,6 +45,7 @@ fn status_of(answer: Answer) -> Status
 
 // Answers `line`, the bytes before its newline, with lines at the front of `out`; the other bytes of `out` stay. Refusal 0
 // where `out` has fewer than 65,536 bytes. A refused call leaves the state as it was.
+#[tactic(auto, unfolding(model::specs::Calls::answered))]
 pub fn call(s: State, line: &[u8], out: &mut [u8]) -> Reply
     ensures { Replies out.old (calls.answered s line.now (length out.old)) out.new result }
 {

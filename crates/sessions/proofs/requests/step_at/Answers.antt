@@ -1,5 +1,5 @@
 -- Each way out is the first refusal whose test holds, or the step by the rule's effect, whose last refusal is 10.
-use Rattle.std.proofs.Common.{◌≡◌, ℕ, refl, Bool, false, List, [], ◌∷◌}
+use Rattle.std.proofs.Common.{◌≡◌, ℕ, arith, refl, Bool, false, List, [], ◌∷◌}
 use borrow.Author.Tests.{le-leb, lt-leb}
 use Rattle.calculus.proofs.Tests.{join}
 use Rattle.calculus.specs.declared.answer.Refusal.TheVariants.{Idle, NoItem, Waiting, Spent}
@@ -16,18 +16,12 @@ unfolding step_at checked
 returns-then-is_unused c =
     simp (join c.is_unused.ensures c.if-is_unused.true) (record { part = c.refused.ensures; shared = refl })
 
-pub returns-then-at-ge16 : goal.returns-then-at-ge16
-unfolding step_at checked
-returns-then-at-ge16 c =
-    simp (le-leb _ _ c.if-at-ge16.true, join c.is_unused.ensures c.if-is_unused.false)
-    (record { part = c.refused-then-at-ge16.ensures; shared = refl })
-
 pub returns-then-is_wait : goal.returns-then-is_wait
 unfolding step_at checked
 returns-then-is_wait c =
     simp (
       join c.is_wait.ensures c.if-is_wait.true,
-      lt-leb _ _ c.if-at-ge16.false,
+      lt-leb 16 c.args.at (omega arith),
       join c.is_unused.ensures c.if-is_unused.false,
     )
     (record { part = c.refused-then-is_wait.ensures; shared = refl })
@@ -44,5 +38,5 @@ unfolding step_at
 returns c =
     passed c.args.t c.args.at c.stepped.ensures c.rule-effect.ensures
     (join c.is_unused.ensures c.if-is_unused.false)
-    (lt-leb _ _ c.if-at-ge16.false)
+    (lt-leb 16 c.args.at (omega arith))
     (join c.is_wait.ensures c.if-is_wait.false)

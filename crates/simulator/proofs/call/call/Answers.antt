@@ -1,5 +1,5 @@
 -- A short output is refused, and a line's session is one of the eight.
-use Rattle.std.proofs.Common.{◌≡◌, refl, true}
+use Rattle.std.proofs.Common.{◌≡◌, arith, refl, true}
 use borrow.Author.Tests.{lt-ltb}
 use Rattle.calculus.specs.Number.{is_session}
 use Rattle.forms.specs.Read.{read}
@@ -7,10 +7,6 @@ use Rattle.model.specs.Calls.{answered}
 use Rattle.simulator.proofs.Range.{asked_session}
 use Rattle.simulator.proofs.Replied.{replied}
 use Rattle.simulator.proofs.call.call.Goals as goal
-
-pub returns-then-out-lt65536 : goal.returns-then-out-lt65536
-unfolding answered
-returns-then-out-lt65536 c = rw (lt-ltb _ _ c.if-out-lt65536.true) (record { reply = refl; output = refl })
 
 pub returns : goal.returns
 returns c =
@@ -20,6 +16,6 @@ returns c =
     replied c.args.s c.args.line.now c.read-reading.result c.read-reading.ensures c.session_of-session.result.0
     (rw c.session_of-session.ensures) c.turn-moved.result c.turn-moved.new.users
     (rw (← part) c.turn-moved.ensures.0) (rw (← part) c.turn-moved.ensures.1)
-    c.if-out-lt65536.false c.write_lines-written.ensures c.store-state.result (rw numbered at c.store-state.ensures)
+    (omega arith) c.write_lines-written.ensures c.store-state.result (rw numbered at c.store-state.ensures)
     c.is_opened-opened.result c.is_opened-opened.ensures c.network_after-network.result c.network_after-network.ensures
     c.status_of-status.result c.status_of-status.ensures
