@@ -16,33 +16,21 @@ pub enum Outcome {
     Delivered(u32),
 }
 
-// The wait that a rule uses up, if any: dwait(a) of a discovery or ewait(a, e) of an establishment.
-#[derive(Clone, Copy)]
+// A wait: dwait(a) of a discovery or ewait(a, e) of an establishment.
+#[derive(Clone, Copy, PartialEq, Eq)]
 pub enum Wait {
-    NoWait,
     Discovery(u8),
     Establishment(u8, u8),
-}
-
-// The rows that a rule adds, the older first.
-#[derive(Clone, Copy)]
-pub enum Added {
-    NoRows,
-    Two(Row, Row),
-}
-
-// The establishment that a rule begins, if any.
-#[derive(Clone, Copy)]
-pub enum Begins {
-    Nothing,
-    Next(u8),
 }
 
 // All that a step does to its session, but the numbers: those follow from how many items it writes.
 #[derive(Clone, Copy)]
 pub struct Effect {
     pub outcome: Outcome,
-    pub wait: Wait,
-    pub added: Added,
-    pub begins: Begins,
+    // the wait that it uses up
+    pub wait: Option<Wait>,
+    // the rows that it adds, the older first
+    pub added: Option<(Row, Row)>,
+    // the establishment that it begins
+    pub begins: Option<u8>,
 }

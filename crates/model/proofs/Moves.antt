@@ -9,8 +9,7 @@ use native.Mathlib.Nat.{add-zero}
 use lib.ListN.{length, take, length-take}
 use lib.Seq.{sets, length-sets}
 use Rattle.calculus.proofs.Tests.{never}
-use Rattle.calculus.specs.declared.effect.Added.{Added}
-use Rattle.calculus.specs.declared.effect.Added.TheVariants.{NoRows, Two}
+use Rattle.std.specs.Prelude.{Option, Some, None}
 use Rattle.calculus.specs.declared.effect.Effect.{Effect}
 use Rattle.calculus.specs.declared.network.Network.{Network}
 use Rattle.calculus.specs.declared.packet.Item.{Item}
@@ -30,13 +29,13 @@ use Rattle.model.proofs.Weights.{length_put, length_after}
 
 -- ---- rows held
 
-placed_length : (n : ℕ) (f : Added) → length (placed n f) ≤ 32 - n
+placed_length : (n : ℕ) (f : Option (Row × Row)) → length (placed n f) ≤ 32 - n
 placed_length n f = simp length-take (omega arith)
 
 none_placed : {A : Type 0} (n : ℕ) (l : List A) → 32 ≤ n → take (32 - n) l ≡ []
 none_placed n l h = let e : 32 - n ≡ 0 = omega arith in rw e
 
-held_placed : (rows : List Row) → length rows ≡ 32 → (n : ℕ) (f : Added)
+held_placed : (rows : List Row) → length rows ≡ 32 → (n : ℕ) (f : Option (Row × Row))
     → take (n + length (placed n f)) (sets rows n (placed n f)) ≡ take n rows ++ placed n f
 held_placed rows h n f = go (dec_lt n 32)
   where
@@ -58,9 +57,9 @@ applied_whole t h at f =
       length-sets t.rows t.session.rows (placed t.session.rows f.added),
     )
 
-pub none_added : (f : Added) → length (added_rows f) ≤ 0 → added_rows f ≡ []
-none_added NoRows h = refl
-none_added (Two r q) h = absurd (omega arith)
+pub none_added : (f : Option (Row × Row)) → length (added_rows f) ≤ 0 → added_rows f ≡ []
+none_added None h = refl
+none_added (Some (r, q)) h = absurd (omega arith)
 
 -- a drop leaves the rows of the other establishments
 pub held_dropping : (e : ℕ) (t : Part) → held (dropping e t) ≡ those (is_other e) (held t)

@@ -9,6 +9,7 @@ use native.Mathlib.Decide.{ℕ_discrete}
 use lib.Dec.{eqb}
 use lib.ListN.{set}
 use borrow.Author.Tests.{le-leb, lt-leb, eq-eqb, ne_eqb}
+use Rattle.std.specs.Prelude.{Option, Some, None}
 use Rattle.calculus.specs.Number.{within}
 use Rattle.calculus.proofs.Tests.{within_bounds, either}
 use Rattle.calculus.specs.declared.effect.Outcome.{Outcome}
@@ -52,9 +53,10 @@ module _ (k : ℕ) where
       pending true b = omega arith
       pending false b = omega arith
 
-  gone_once : (l : List Slot) (at : ℕ) (w : Wait) → times (use_up (set l at blank_slot) w) ≤ times l
+  gone_once : (l : List Slot) (at : ℕ) (w : Option Wait) → times (use_up (set l at blank_slot) w) ≤ times l
   unfolding use_up
-  gone_once l at w =
+  gone_once l at None = omega (arith, tally_set (is_numbered k) l at blank_slot)
+  gone_once l at (Some w) =
       let rest = set l at blank_slot in
       omega (
         arith,

@@ -7,10 +7,12 @@ use native.Mathlib.Omega.{arith}
 use lib.Dec.{leb}
 use lib.ListN.{set}
 use borrow.Author.Tests.{ltb-false, leb-false, eqb-false, not-false}
+use Rattle.std.specs.Prelude.{Option, Some, None}
 use Rattle.calculus.proofs.Tests.{both, never}
 use Rattle.calculus.specs.declared.effect.Outcome.{Outcome}
 use Rattle.calculus.specs.declared.effect.Outcome.TheVariants.{Wrote, WroteByDefault, WroteTwo, Lost, Denied, Opened, Delivered}
 use Rattle.calculus.specs.declared.effect.Effect.{Effect}
+use Rattle.calculus.specs.declared.effect.Wait.{Wait}
 use Rattle.calculus.specs.declared.network.Network.{Network}
 use Rattle.calculus.specs.declared.packet.Payload.TheVariants.{Disc, Data}
 use Rattle.calculus.specs.declared.packet.Item.{Item}
@@ -62,13 +64,15 @@ module _ (P : Item → Type 0) where
   all_written l n (Delivered tag) h k = h
 
   module _ (z : P Free) where
+    all_used : (l : List Slot) (w : Option Wait) → All (At P) l → All (At P) (use_up l w)
+    unfolding use_up
+    all_used l None h = h
+    all_used l (Some w) h = all_set (At P) l (place (λ (s : Slot). is_that_wait w s.item) l) blank_slot h z
+
     pub all_after : (l : List Slot) (n at : ℕ) (f : Effect) → All (At P) (set l at blank_slot) → Written P f.outcome
         → All (At P) (items_after l n at f)
-    unfolding items_after use_up
-    all_after l n at f h k =
-        let rest = set l at blank_slot in
-        all_written (use_up rest f.wait) n f.outcome
-        (all_set (At P) rest (place (λ (s : Slot). is_that_wait f.wait s.item) rest) blank_slot h z) k
+    unfolding items_after
+    all_after l n at f h k = let rest = set l at blank_slot in all_written (use_up rest f.wait) n f.outcome (all_used rest f.wait h) k
 
     -- where nothing pends every place is free
     all_free : (l : List Slot) → how_many_items is_pending l ≡ 0 → All (At P) l

@@ -5,11 +5,11 @@ use mathlib.Core.List.{List, [], ◌∷◌, ◌++◌}
 use Prim.Native.Nat.{ℕ, ◌+◌, ◌≤◌, ◌<◌}
 use native.Mathlib.Omega.{arith}
 use lib.Seq.{take_all}
+use Rattle.std.specs.Prelude.{Option, Some, None}
 use Rattle.calculus.proofs.Tests.{either}
 use Rattle.calculus.specs.declared.effect.Outcome.{Outcome}
 use Rattle.calculus.specs.declared.effect.Outcome.TheVariants.{Wrote, WroteByDefault, WroteTwo, Lost, Denied, Opened, Delivered}
 use Rattle.calculus.specs.declared.effect.Wait.{Wait}
-use Rattle.calculus.specs.declared.effect.Wait.TheVariants.{NoWait, Discovery, Establishment}
 use Rattle.calculus.specs.declared.network.Network.{Network}
 use Rattle.calculus.specs.declared.packet.Item.{Item}
 use Rattle.calculus.specs.declared.packet.Item.TheVariants.{Free, Wire, Out, Up, Est, Auth, Grant, Ack, Dwait, Ewait}
@@ -69,10 +69,9 @@ weigh_items g Denied = refl
 weigh_items g Opened = refl
 weigh_items g (Delivered tag) = refl
 
-weigh_waits : (g : Item → Bool) (w : Wait) → weigh_wait (count g) w ≡ tally g (wait_items w)
-weigh_waits g NoWait = refl
-weigh_waits g (Discovery a) = omega arith
-weigh_waits g (Establishment a e) = omega arith
+weigh_waits : (g : Item → Bool) (w : Option Wait) → weigh_wait (count g) w ≡ tally g (wait_items w)
+weigh_waits g None = refl
+weigh_waits g (Some v) = omega arith
 
 module _ (t : Part) (h : Roomy t) where
   put_comes : (n : ℕ) (i : Item) (g : Item → Bool) → g Free ≡ false

@@ -9,9 +9,10 @@ use native.Mathlib.Omega.{arith}
 use native.Mathlib.Decide.{ℕ_discrete}
 use lib.Dec.{eqb}
 use borrow.Author.Tests.{eq-eqb, ne_eqb, le-leb, lt-leb}
+use Rattle.std.specs.Prelude.{Option, Some, None}
 use Rattle.calculus.proofs.Tests.{within_bounds, either}
 use Rattle.calculus.specs.declared.effect.Wait.{Wait}
-use Rattle.calculus.specs.declared.effect.Wait.TheVariants.{NoWait, Discovery, Establishment}
+use Rattle.calculus.specs.declared.effect.Wait.TheVariants.{Discovery, Establishment}
 use Rattle.calculus.specs.declared.packet.Payload.{Payload}
 use Rattle.calculus.specs.declared.packet.Payload.TheVariants.{Req, Rep, Disc, Done, Data}
 use Rattle.calculus.specs.declared.packet.Packet.{Packet}
@@ -130,10 +131,9 @@ spare g = cond (is_unused g) 3 0
 -- ---- the waits that are wanted
 
 -- the item is to use up the wait, if there is one
-abbrev pub Wanted : Item → Wait → Type 0
-Wanted i NoWait = Unit
-Wanted i (Discovery a) = 1 ≤ uses (Discovery a) i
-Wanted i (Establishment a e) = 1 ≤ uses (Establishment a e) i
+abbrev pub Wanted : Item → Option Wait → Type 0
+Wanted i None = Unit
+Wanted i (Some v) = 1 ≤ uses v i
 
 packet_wanted : (a from : ℕ) (y : Payload) (i : Item) → ((v : Wait) → uses v i ≡ packet_uses v y from a) → Wanted i (wait_of_packet a y)
 unfolding waits
@@ -157,11 +157,10 @@ wanted (Dwait a) = tt
 wanted (Ewait a e) = tt
 
 -- a wait that an item is to use up pends, if as many do as are used up
-pub pends : (i : Item) (l : List Slot) → ((v : Wait) → uses v i ≤ weigh (waits v) l) → (v : Wait) → Wanted i v → Pends l v
+pub pends : (i : Item) (l : List Slot) → ((v : Wait) → uses v i ≤ weigh (waits v) l) → (v : Option Wait) → Wanted i v → Pends l v
 unfolding waits
-pends i l h NoWait k = tt
-pends i l h (Discovery a) k = omega (arith, h (Discovery a), counted (is_that_wait (Discovery a)) l)
-pends i l h (Establishment a e) k = omega (arith, h (Establishment a e), counted (is_that_wait (Establishment a e)) l)
+pends i l h None k = tt
+pends i l h (Some v) k = omega (arith, h v, counted (is_that_wait v) l)
 
 -- ---- the places held
 

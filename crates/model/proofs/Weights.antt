@@ -3,23 +3,25 @@ use mathlib.Core.Path.{◌≡◌, refl, sym, ap, ap₂, ◌∙◌}
 use mathlib.Core.Bool.{Bool, true, false, cond, not}
 use mathlib.Core.List.{List, [], ◌∷◌}
 use Prim.Native.Nat.{ℕ, zero, suc, ◌+◌, ◌≤◌, ◌<◌}
+use native.Mathlib.Nat.{add-zero}
 use native.Mathlib.Omega.{arith}
 use lib.Dec.{eqb}
 use lib.ListN.{length, set, length-set}
 use borrow.Author.Tests.{eqb-true}
-use Rattle.calculus.proofs.Tests.{both, never, either}
+use Rattle.std.specs.Prelude.{Option, Some, None}
+use Rattle.calculus.proofs.Tests.{both, never}
 use Rattle.calculus.specs.declared.effect.Outcome.{Outcome}
 use Rattle.calculus.specs.declared.effect.Outcome.TheVariants.{Wrote, WroteByDefault, WroteTwo, Lost, Denied, Opened, Delivered}
 use Rattle.calculus.specs.declared.effect.Wait.{Wait}
-use Rattle.calculus.specs.declared.effect.Wait.TheVariants.{NoWait, Discovery, Establishment}
+use Rattle.calculus.specs.declared.effect.Wait.TheVariants.{Discovery, Establishment}
 use Rattle.calculus.specs.declared.effect.Effect.{Effect}
 use Rattle.calculus.specs.declared.packet.Item.{Item}
 use Rattle.calculus.specs.declared.packet.Item.TheVariants.{Free, Wire, Out, Up, Est, Auth, Grant, Ack, Dwait, Ewait}
 use Rattle.calculus.specs.declared.packet.Slot.{Slot}
 use Rattle.model.specs.Lists.{place}
 use Rattle.model.specs.State.{blank_slot, use_up, put_item, written, written_count, items_after}
-use Rattle.model.specs.Item.{is_free, wait_in, is_some_wait, is_wait, same_wait, is_that_wait, how_many_items}
-use Rattle.model.specs.SetUp.{is_pending, Pends, item_at}
+use Rattle.model.specs.Item.{is_free, is_wait, same_wait, is_that_wait, how_many_items}
+use Rattle.model.specs.SetUp.{is_pending, Pends, item_at, wait_item}
 use Rattle.model.proofs.Checks.{one, one_le}
 
 -- ---- weights
@@ -43,10 +45,9 @@ weigh_out w Opened = 0
 weigh_out w (Delivered tag) = 0
 
 -- the wait that is used up
-abbrev pub weigh_wait : (Item → ℕ) → Wait → ℕ
-weigh_wait w NoWait = 0
-weigh_wait w (Discovery a) = w (Dwait a)
-weigh_wait w (Establishment a e) = w (Ewait a e)
+abbrev pub weigh_wait : (Item → ℕ) → Option Wait → ℕ
+weigh_wait w None = 0
+weigh_wait w (Some v) = w (wait_item v)
 
 pub counted : (f : Item → Bool) (l : List Slot) → how_many_items f l ≡ weigh (count f) l
 unfolding weigh
@@ -98,43 +99,38 @@ free_is (Ack b f) k = never k
 free_is (Dwait b) k = never k
 free_is (Ewait b f) k = never k
 
--- the item that is the wait v
-abbrev wait_item : Wait → Item
-wait_item NoWait = Free
-wait_item (Discovery a) = Dwait a
-wait_item (Establishment a e) = Ewait a e
-
-same_wait_lem : (v w : Wait) → same_wait v w ≡ true → (v ≡ w) × (is_some_wait w ≡ true)
-same_wait_lem NoWait w k = never k
-same_wait_lem (Discovery a) NoWait k = never k
-same_wait_lem (Discovery a) (Discovery b) k = (ap Discovery (eqb-true a b k), refl)
+same_wait_lem : (v w : Wait) → same_wait v w ≡ true → w ≡ v
+same_wait_lem (Discovery a) (Discovery b) k = ap Discovery (sym (eqb-true a b k))
 same_wait_lem (Discovery a) (Establishment b f) k = never k
-same_wait_lem (Establishment a e) NoWait k = never k
 same_wait_lem (Establishment a e) (Discovery b) k = never k
 same_wait_lem (Establishment a e) (Establishment b f) k =
     let h = both (eqb a b) (eqb e f) k in
-    (ap₂ Establishment (eqb-true a b h.0) (eqb-true e f h.1), refl)
-
-is_wait_lem : (i : Item) → is_wait i ≡ true → i ≡ wait_item (wait_in i)
-is_wait_lem Free k = refl
-is_wait_lem (Wire b p) k = never k
-is_wait_lem (Out b p) k = never k
-is_wait_lem (Up b p) k = never k
-is_wait_lem (Est b c f) k = never k
-is_wait_lem (Auth b q f side) k = never k
-is_wait_lem (Grant b q f side) k = never k
-is_wait_lem (Ack b f) k = never k
-is_wait_lem (Dwait b) k = refl
-is_wait_lem (Ewait b f) k = refl
+    ap₂ Establishment (sym (eqb-true a b h.0)) (sym (eqb-true e f h.1))
 
 wait_is : (v : Wait) (i : Item) → is_that_wait v i ≡ true → i ≡ wait_item v
-wait_is v i k =
-    let s = same_wait_lem v (wait_in i) k in
-    is_wait_lem i s.1 ∙ ap wait_item (sym s.0)
+wait_is v Free k = never k
+wait_is v (Wire b p) k = never k
+wait_is v (Out b p) k = never k
+wait_is v (Up b p) k = never k
+wait_is v (Est b c f) k = never k
+wait_is v (Auth b q f side) k = never k
+wait_is v (Grant b q f side) k = never k
+wait_is v (Ack b f) k = never k
+wait_is v (Dwait b) k = ap wait_item (same_wait_lem v (Discovery b) k)
+wait_is v (Ewait b f) k = ap wait_item (same_wait_lem v (Establishment b f) k)
 
 -- an item that is no wait is not that wait
 pub not_that_wait : (v : Wait) (i : Item) → is_wait i ≡ false → count (is_that_wait v) i ≡ 0
-not_that_wait v i h = either (λ (n : ℕ). n ≡ 0) (is_that_wait v i) (λ k. never (sym h ∙ (same_wait_lem v (wait_in i) k).1)) (λ k. refl)
+not_that_wait v Free h = refl
+not_that_wait v (Wire b p) h = refl
+not_that_wait v (Out b p) h = refl
+not_that_wait v (Up b p) h = refl
+not_that_wait v (Est b c f) h = refl
+not_that_wait v (Auth b q f side) h = refl
+not_that_wait v (Grant b q f side) h = refl
+not_that_wait v (Ack b f) h = refl
+not_that_wait v (Dwait b) h = never (sym h)
+not_that_wait v (Ewait b f) h = never (sym h)
 
 -- ---- the items after a step
 
@@ -148,11 +144,6 @@ free_or_pending (s ∷ l) = go (is_free s.item) (free_or_pending l)
         → (cond b 1 0 + weigh (count is_free) l) + (cond (not b) 1 0 + weigh (count is_pending) l) ≡ suc (length l)
     go true h = omega arith
     go false h = omega arith
-
-use_none : (l : List Slot) → use_up l NoWait ≡ l
-unfolding use_up
-use_none [] = refl
-use_none (s ∷ l) = ap (λ (m : List Slot). s ∷ m) (use_none l)
 
 module _ (w : Item → ℕ) where
   pub weigh_set : (l : List Slot) (i : ℕ) (x : Slot) → i < length l
@@ -181,15 +172,15 @@ module _ (w : Item → ℕ) where
     weigh_put l n i h =
         omega (arith, z, weigh_first is_free Free free_is l (record { number = record { 0 = n }; item = i }) (omega (arith, free_or_pending l)))
 
-    weigh_used : (l : List Slot) (v : Wait) → 1 ≤ how_many_items (is_that_wait v) l → weigh w (use_up l v) + w (wait_item v) ≡ weigh w l
+    weigh_used : (l : List Slot) (v : Wait) → 1 ≤ how_many_items (is_that_wait v) l → weigh w (use_up l (Some v)) + w (wait_item v) ≡ weigh w l
     unfolding use_up
     weigh_used l v h =
         omega (arith, z, weigh_first (is_that_wait v) (wait_item v) (wait_is v) l blank_slot (omega (arith, counted (is_that_wait v) l)))
 
-    weigh_use : (l : List Slot) (v : Wait) → Pends l v → weigh w (use_up l v) + weigh_wait w v ≡ weigh w l
-    weigh_use l NoWait h = rw use_none (omega arith)
-    weigh_use l (Discovery a) h = weigh_used l (Discovery a) h
-    weigh_use l (Establishment a e) h = weigh_used l (Establishment a e) h
+    weigh_use : (l : List Slot) (v : Option Wait) → Pends l v → weigh w (use_up l v) + weigh_wait w v ≡ weigh w l
+    unfolding use_up
+    weigh_use l None h = add-zero (weigh w l)
+    weigh_use l (Some v) h = weigh_used l v h
 
 -- ---- lengths
 
@@ -197,9 +188,10 @@ pub length_put : (l : List Slot) (n : ℕ) (i : Item) → length (put_item l n i
 unfolding put_item
 length_put l n i = simp length-set
 
-length_use : (l : List Slot) (v : Wait) → length (use_up l v) ≡ length l
+length_use : (l : List Slot) (v : Option Wait) → length (use_up l v) ≡ length l
 unfolding use_up
-length_use l v = simp length-set
+length_use l None = refl
+length_use l (Some v) = simp length-set
 
 length_written : (l : List Slot) (n : ℕ) (o : Outcome) → length (written l n o) ≡ length l
 length_written l n (Wrote i) = simp length_put

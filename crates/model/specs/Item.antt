@@ -1,7 +1,7 @@
 -- Items: what is asked of one, and of the places that hold them. Assumes nothing.
-use Rattle.std.specs.Prelude.{ℕ, Bool, true, false, ◌&&◌, List, eqb}
+use Rattle.std.specs.Prelude.{ℕ, Bool, true, false, ◌&&◌, List, eqb, Option, Some, None, is_some}
 use Rattle.calculus.specs.declared.effect.Wait.{Wait}
-use Rattle.calculus.specs.declared.effect.Wait.TheVariants.{NoWait, Discovery, Establishment}
+use Rattle.calculus.specs.declared.effect.Wait.TheVariants.{Discovery, Establishment}
 use Rattle.calculus.specs.declared.packet.Item.{Item}
 use Rattle.calculus.specs.declared.packet.Item.TheVariants.{Free, Wire, Out, Up, Est, Auth, Grant, Ack, Dwait, Ewait}
 use Rattle.calculus.specs.declared.packet.Slot.{Slot}
@@ -22,39 +22,36 @@ is_free (Dwait a) = false
 is_free (Ewait a e) = false
 
 -- the wait that the item is: dwait(a), ewait(a, e) or none
-abbrev pub wait_in : Item → Wait
-wait_in Free = NoWait
-wait_in (Wire a p) = NoWait
-wait_in (Out a p) = NoWait
-wait_in (Up a p) = NoWait
-wait_in (Est a b e) = NoWait
-wait_in (Auth a q e side) = NoWait
-wait_in (Grant a q e side) = NoWait
-wait_in (Ack a e) = NoWait
-wait_in (Dwait a) = Discovery a
-wait_in (Ewait a e) = Establishment a e
-
-abbrev pub is_some_wait : Wait → Bool
-is_some_wait NoWait = false
-is_some_wait (Discovery a) = true
-is_some_wait (Establishment a e) = true
+abbrev pub wait_in : Item → Option Wait
+wait_in Free = None
+wait_in (Wire a p) = None
+wait_in (Out a p) = None
+wait_in (Up a p) = None
+wait_in (Est a b e) = None
+wait_in (Auth a q e side) = None
+wait_in (Grant a q e side) = None
+wait_in (Ack a e) = None
+wait_in (Dwait a) = Some (Discovery a)
+wait_in (Ewait a e) = Some (Establishment a e)
 
 -- "a dwait or ewait"
 abbrev pub is_wait : Item → Bool
-is_wait i = is_some_wait (wait_in i)
+is_wait i = is_some (wait_in i)
 
 abbrev pub same_wait : Wait → Wait → Bool
-same_wait NoWait w = false
-same_wait (Discovery a) NoWait = false
 same_wait (Discovery a) (Discovery b) = eqb a b
 same_wait (Discovery a) (Establishment b f) = false
-same_wait (Establishment a e) NoWait = false
 same_wait (Establishment a e) (Discovery b) = false
 same_wait (Establishment a e) (Establishment b f) = eqb a b && eqb e f
 
+-- there is a wait, and it is w
+abbrev pub is_that : Wait → Option Wait → Bool
+is_that w None = false
+is_that w (Some v) = same_wait w v
+
 -- the item is the wait w
 abbrev pub is_that_wait : Wait → Item → Bool
-is_that_wait w i = same_wait w (wait_in i)
+is_that_wait w i = is_that w (wait_in i)
 
 -- a packet with Data
 abbrev pub is_data_item : Item → Bool

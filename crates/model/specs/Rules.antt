@@ -1,13 +1,11 @@
 -- The seven rules of a step, each a function of what it reads that gives an effect. Assumes nothing.
-use Rattle.std.specs.Prelude.{ℕ, ◌+◌, Bool, true, false, cond, not, ◌&&◌, ◌||◌, List, leb, eqb}
+use Rattle.std.specs.Prelude.{ℕ, ◌+◌, Bool, true, false, cond, not, ◌&&◌, ◌||◌, List, leb, eqb, Option, Some, None}
 use Rattle.calculus.specs.declared.answer.Loss.{Loss}
 use Rattle.calculus.specs.declared.answer.Loss.TheVariants.{Unprotected, HopLimit, NoRoute, NoTunnel, WrongTunnel, Exhausted}
 use Rattle.calculus.specs.declared.effect.Outcome.{Outcome}
 use Rattle.calculus.specs.declared.effect.Outcome.TheVariants.{Wrote, WroteByDefault, WroteTwo, Lost, Denied, Opened, Delivered}
 use Rattle.calculus.specs.declared.effect.Wait.{Wait}
-use Rattle.calculus.specs.declared.effect.Wait.TheVariants.{NoWait, Discovery, Establishment}
-use Rattle.calculus.specs.declared.effect.Added.TheVariants.{NoRows, Two}
-use Rattle.calculus.specs.declared.effect.Begins.TheVariants.{Nothing, Next}
+use Rattle.calculus.specs.declared.effect.Wait.TheVariants.{Discovery, Establishment}
 use Rattle.calculus.specs.declared.effect.Effect.{Effect}
 use Rattle.calculus.specs.declared.network.NextHop.{NextHop}
 use Rattle.calculus.specs.declared.network.NextHop.TheVariants.{Exact, Default, Missing}
@@ -32,7 +30,7 @@ use Rattle.model.specs.Row.{held, in_row, out_row, newest, admits, spi_of}
 
 -- nothing but the outcome
 abbrev pub only : Outcome → Effect
-only o = record { outcome = o; wait = NoWait; added = NoRows; begins = Nothing }
+only o = record { outcome = o; wait = None; added = None; begins = None }
 
 abbrev pub lost : Loss → Effect
 lost l = only (Lost l)
@@ -40,13 +38,13 @@ lost l = only (Lost l)
 abbrev pub writes : Item → Effect
 writes i = only (Wrote i)
 
--- use up the wait w, write i
-abbrev pub writes_for : Wait → Item → Effect
-writes_for w i = record { outcome = Wrote i; wait = w; added = NoRows; begins = Nothing }
+-- use up the wait w, if there is one, write i
+abbrev pub writes_for : Option Wait → Item → Effect
+writes_for w i = record { outcome = Wrote i; wait = w; added = None; begins = None }
 
 -- add the rows r and then q, write i
 abbrev pub writes_rows : Row → Row → Item → Effect
-writes_rows r q i = record { outcome = Wrote i; wait = NoWait; added = Two r q; begins = Nothing }
+writes_rows r q i = record { outcome = Wrote i; wait = None; added = Some (r, q); begins = None }
 
 -- where document 01 has no outcome: SetUp states that no list of calls comes to it
 abbrev pub never_met : Effect
@@ -80,7 +78,7 @@ is_exhausted s = leb establishment_limit s.begun
 
 -- "begin the next e (from 1), write dwait(a), est(a, p, e)"
 abbrev pub begin : ℕ → ℕ → ℕ → Effect
-begin a p e = record { outcome = WroteTwo (Dwait a) (Est a p e); wait = NoWait; added = NoRows; begins = Next e }
+begin a p e = record { outcome = WroteTwo (Dwait a) (Est a p e); wait = None; added = None; begins = Some e }
 
 -- "a is a gateway, the packet bare, Data or Done"
 abbrev pub unprotected : Bool → Packet → Bool
@@ -142,7 +140,7 @@ matched rows a p = eqb (newest rows false a p).first (stripped p.header).first
 -- a packet from b, received at its destination a
 abbrev pub received : ℕ → ℕ → Payload → Effect
 received a b (Req e) = writes (Auth a b e Responder)
-received a b (Rep e) = writes_for (Establishment a e) (Auth a b e Initiator)
+received a b (Rep e) = writes_for (Some (Establishment a e)) (Auth a b e Initiator)
 received a b (Disc p) = never_met
 received a b Done = only Opened
 received a b (Data tag) = only (Delivered tag)
@@ -183,7 +181,7 @@ acknowledged s a =
 
 -- ack(a, e)
 unfoldable pub ack_rule : Session → ℕ → Effect
-ack_rule s a = writes_for (Discovery a) (acknowledged s a)
+ack_rule s a = writes_for (Some (Discovery a)) (acknowledged s a)
 
 -- ---- a step
 

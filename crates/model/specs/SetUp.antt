@@ -1,9 +1,9 @@
 -- What a set-up can hold, whatever the list of calls: no stated outcome for other tables is met. Proved in proofs/SetUp. Assumes nothing.
-use Rattle.std.specs.Prelude.{ℕ, ◌+◌, ◌*◌, ◌≤◌, ◌<◌, ◌≡◌, Bool, true, false, cond, not, ◌&&◌, List, [], ◌∷◌, ◌++◌, length, get_or}
+use Rattle.std.specs.Prelude.{ℕ, ◌+◌, ◌*◌, ◌≤◌, ◌<◌, ◌≡◌, Bool, true, false, cond, not, ◌&&◌, List, [], ◌∷◌, ◌++◌, length, get_or, Option, Some, None}
 use Rattle.calculus.specs.declared.effect.Outcome.{Outcome}
 use Rattle.calculus.specs.declared.effect.Outcome.TheVariants.{Wrote, WroteByDefault, WroteTwo, Lost, Denied, Opened, Delivered}
 use Rattle.calculus.specs.declared.effect.Wait.{Wait}
-use Rattle.calculus.specs.declared.effect.Wait.TheVariants.{NoWait, Discovery, Establishment}
+use Rattle.calculus.specs.declared.effect.Wait.TheVariants.{Discovery, Establishment}
 use Rattle.calculus.specs.declared.effect.Effect.{Effect}
 use Rattle.calculus.specs.declared.network.Network.{Network}
 use Rattle.calculus.specs.declared.network.NextHop.{NextHop}
@@ -68,31 +68,30 @@ is_disc_off_wire (Dwait a) = false
 is_disc_off_wire (Ewait a e) = false
 
 -- the wait of a packet to a: ewait(a, e) for Rep(e)
-abbrev pub wait_of_packet : ℕ → Payload → Wait
-wait_of_packet a (Req e) = NoWait
-wait_of_packet a (Rep e) = Establishment a e
-wait_of_packet a (Disc p) = NoWait
-wait_of_packet a Done = NoWait
-wait_of_packet a (Data tag) = NoWait
+abbrev pub wait_of_packet : ℕ → Payload → Option Wait
+wait_of_packet a (Req e) = None
+wait_of_packet a (Rep e) = Some (Establishment a e)
+wait_of_packet a (Disc p) = None
+wait_of_packet a Done = None
+wait_of_packet a (Data tag) = None
 
 -- the wait that the item is to use up: a Rep its ewait, an ack its dwait
-abbrev pub wait_of : Item → Wait
-wait_of Free = NoWait
+abbrev pub wait_of : Item → Option Wait
+wait_of Free = None
 wait_of (Wire a p) = wait_of_packet p.destination p.payload
 wait_of (Out a p) = wait_of_packet p.destination p.payload
 wait_of (Up a p) = wait_of_packet p.destination p.payload
-wait_of (Est a b e) = NoWait
-wait_of (Auth a q e side) = NoWait
-wait_of (Grant a q e side) = NoWait
-wait_of (Ack a e) = Discovery a
-wait_of (Dwait a) = NoWait
-wait_of (Ewait a e) = NoWait
+wait_of (Est a b e) = None
+wait_of (Auth a q e side) = None
+wait_of (Grant a q e side) = None
+wait_of (Ack a e) = Some (Discovery a)
+wait_of (Dwait a) = None
+wait_of (Ewait a e) = None
 
 -- the wait pends, if there is one
-abbrev pub Pends : List Slot → Wait → Type 0
-Pends l NoWait = Unit
-Pends l (Discovery a) = 1 ≤ how_many_items (is_that_wait (Discovery a)) l
-Pends l (Establishment a e) = 1 ≤ how_many_items (is_that_wait (Establishment a e)) l
+abbrev pub Pends : List Slot → Option Wait → Type 0
+Pends l None = Unit
+Pends l (Some w) = 1 ≤ how_many_items (is_that_wait w) l
 
 -- neither count is above 32
 abbrev pub FewHops : Packet → Type 0
@@ -123,11 +122,15 @@ items_of Denied = []
 items_of Opened = []
 items_of (Delivered tag) = []
 
--- the item that is the wait, if there is one
-abbrev pub wait_items : Wait → List Item
-wait_items NoWait = []
-wait_items (Discovery a) = Dwait a ∷ []
-wait_items (Establishment a e) = Ewait a e ∷ []
+-- the item that is the wait
+abbrev pub wait_item : Wait → Item
+wait_item (Discovery a) = Dwait a
+wait_item (Establishment a e) = Ewait a e
+
+-- the same, if there is a wait
+abbrev pub wait_items : Option Wait → List Item
+wait_items None = []
+wait_items (Some w) = wait_item w ∷ []
 
 -- the item in a place, or Free past the places
 abbrev pub item_at : List Slot → ℕ → Item

@@ -1,5 +1,5 @@
 -- The state: fresh, a session's part taken out and put back, and an effect applied to a part. Assumes nothing.
-use Rattle.std.specs.Prelude.{ℕ, ◌+◌, ◌*◌, ◌-◌, Bool, false, not, ◌&&◌, List, [], ◌∷◌, eqb, length, get_or, set, take, drop, replicate}
+use Rattle.std.specs.Prelude.{ℕ, ◌+◌, ◌*◌, ◌-◌, Bool, false, not, ◌&&◌, List, [], ◌∷◌, eqb, length, get_or, set, take, drop, replicate, Option, Some, None}
 use Rattle.std.proofs.lemmas.List.Edits.{sets}
 use Rattle.std.proofs.Math.Seq.{paste}
 use Rattle.calculus.specs.declared.answer.Answer as answer
@@ -7,10 +7,6 @@ use Rattle.calculus.specs.declared.answer.Answer.TheVariants as answers
 use Rattle.calculus.specs.declared.effect.Outcome.{Outcome}
 use Rattle.calculus.specs.declared.effect.Outcome.TheVariants.{Wrote, WroteByDefault, WroteTwo, Lost, Denied, Opened, Delivered}
 use Rattle.calculus.specs.declared.effect.Wait.{Wait}
-use Rattle.calculus.specs.declared.effect.Added.{Added}
-use Rattle.calculus.specs.declared.effect.Added.TheVariants.{NoRows, Two}
-use Rattle.calculus.specs.declared.effect.Begins.{Begins}
-use Rattle.calculus.specs.declared.effect.Begins.TheVariants.{Nothing, Next}
 use Rattle.calculus.specs.declared.effect.Effect.{Effect}
 use Rattle.calculus.specs.declared.packet.Item.{Item}
 use Rattle.calculus.specs.declared.packet.Item.TheVariants.{Free}
@@ -80,8 +76,9 @@ store s u t =
 abbrev pub is_numbered : ℕ → Slot → Bool
 is_numbered k s = not (vacant s) && eqb s.number.0 k
 
-unfoldable pub use_up : List Slot → Wait → List Slot
-use_up l w = set l (place (λ s. is_that_wait w s.item) l) blank_slot
+unfoldable pub use_up : List Slot → Option Wait → List Slot
+use_up l None = l
+use_up l (Some w) = set l (place (λ s. is_that_wait w s.item) l) blank_slot
 
 -- item i, with the number n, goes to the first free place; with none free it finds none, and SetUp states that this never is
 unfoldable pub put_item : List Slot → ℕ → Item → List Slot
@@ -128,16 +125,16 @@ stage_after g Denied = Stage.Denied
 stage_after g Opened = Stage.Open
 stage_after g (Delivered tag) = g
 
-abbrev pub begun_after : ℕ → Begins → ℕ
-begun_after n Nothing = n
-begun_after n (Next e) = e
+abbrev pub begun_after : ℕ → Option ℕ → ℕ
+begun_after n None = n
+begun_after n (Some e) = e
 
-abbrev pub added_rows : Added → List Row
-added_rows NoRows = []
-added_rows (Two r q) = r ∷ q ∷ []
+abbrev pub added_rows : Option (Row × Row) → List Row
+added_rows None = []
+added_rows (Some (r, q)) = r ∷ q ∷ []
 
 -- the rows that find a place where n stand: with none free a row finds none, and SetUp states that this never is
-abbrev pub placed : ℕ → Added → List Row
+abbrev pub placed : ℕ → Option (Row × Row) → List Row
 placed n f = take (32 - n) (added_rows f)
 
 -- "The stepped item is used up", and the wait; then come the items written
