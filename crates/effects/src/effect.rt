@@ -3,7 +3,7 @@ ghost use Rattle.std.specs.Prelude.{◌≡◌};
 ghost use Rattle.model.specs.Rules as spec;
 
 use calculus::answer::Loss;
-use calculus::effect::{Added, Begins, Effect, Outcome, Wait};
+use calculus::effect::{Effect, Outcome, Wait};
 use calculus::packet::Item;
 use calculus::session::Row;
 
@@ -13,9 +13,9 @@ pub fn only(outcome: Outcome) -> Effect
 {
     Effect {
         outcome,
-        wait: Wait::NoWait,
-        added: Added::NoRows,
-        begins: Begins::Nothing,
+        wait: None,
+        added: None,
+        begins: None,
     }
 }
 
@@ -31,26 +31,19 @@ pub fn writes(i: Item) -> Effect
     only(Outcome::Wrote(i))
 }
 
-// Uses the wait up, writes the item.
-pub fn writes_for(wait: Wait, i: Item) -> Effect
+// Uses the wait up, if there is one, and writes the item.
+pub fn writes_for(wait: Option<Wait>, i: Item) -> Effect
     ensures { result ≡ spec.writes_for wait i }
 {
-    Effect {
-        outcome: Outcome::Wrote(i),
-        wait,
-        added: Added::NoRows,
-        begins: Begins::Nothing,
-    }
+    Effect { wait, ..writes(i) }
 }
 
 // Adds the rows, the older first, and writes the item.
-pub fn writes_rows(r: Row, q: Row, i: Item) -> Effect
-    ensures { result ≡ spec.writes_rows r q i }
+pub fn writes_rows(older: Row, newer: Row, i: Item) -> Effect
+    ensures { result ≡ spec.writes_rows older newer i }
 {
     Effect {
-        outcome: Outcome::Wrote(i),
-        wait: Wait::NoWait,
-        added: Added::Two(r, q),
-        begins: Begins::Nothing,
+        added: Some((older, newer)),
+        ..writes(i)
     }
 }

@@ -4,7 +4,7 @@ ghost use Rattle.model.specs.Requests as spec;
 ghost use Rattle.model.specs.Turn.{moving, Moves};
 ghost use Rattle.effects.specs.Stepped.{stepped_unless_spent};
 
-use crate::apply::{answer_of, applied, users_after};
+use crate::apply::{answer_of, apply, users_after};
 use calculus::answer::{Answer, Refusal};
 use calculus::effect::Effect;
 use calculus::state::{Moved, Part};
@@ -20,17 +20,15 @@ pub fn refused(t: Part, r: Refusal) -> Moved
 }
 
 // What the effect of the item at `at` leaves.
+#[tactic(auto, unfolding(model::specs::Requests::stepped))]
 fn made(users: &mut [u16; 2048], t: Part, at: usize, f: Effect) -> Moved
     requires { t.session.last.0 ≤ 999998 }
     ensures { Moves users.old t (spec.stepped t at f) users.new result }
 {
-    let s = t.session;
-    let last = s.last;
-    let outcome = f.outcome;
-    let added = f.added;
-    let answer = answer_of(last, outcome);
-    let part = applied(t, at, f);
-    users_after(users, s.rows, added);
+    let answer = answer_of(t.session.last, &f.outcome);
+    let mut part = t;
+    apply(&mut part, at, &f);
+    users_after(users, t.session.rows, f.added);
     Moved {
         opens: false,
         answer,

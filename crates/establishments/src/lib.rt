@@ -12,14 +12,16 @@ use items::packet::bare;
 use rows::row::{in_row, out_row};
 
 // est(a, b, e)
+#[tactic(auto, unfolding(model::specs::Rules::est_rule))]
 pub fn est(a: u8, b: u8, e: u8) -> Effect
     ensures { result ≡ spec.est_rule a b e }
 {
-    let packet = bare(a, b, Payload::Req(e));
-    only(Outcome::WroteTwo(Item::Out(a, packet), Item::Ewait(a, e)))
+    let request = Item::Out(a, bare(a, b, Payload::Req(e)));
+    only(Outcome::WroteTwo(request, Item::Ewait(a, e)))
 }
 
 // auth(a, q, e, side), where `enough` tells whether q has all that a needs
+#[tactic(auto, unfolding(model::specs::Rules::auth_rule))]
 pub fn auth(enough: bool, a: u8, q: u8, e: u8, side: Side) -> Effect
     ensures { result ≡ spec.auth_rule enough a q e side }
 {
@@ -30,6 +32,7 @@ pub fn auth(enough: bool, a: u8, q: u8, e: u8, side: Side) -> Effect
 }
 
 // grant(a, q, e, side)
+#[tactic(auto, unfolding(model::specs::Rules::grant_rule))]
 pub fn grant(s: Session, a: u8, q: u8, e: u8, side: Side) -> Effect
     ensures { result ≡ spec.grant_rule s a q e side }
 {
@@ -37,8 +40,7 @@ pub fn grant(s: Session, a: u8, q: u8, e: u8, side: Side) -> Effect
         Side::Responder => {
             let older = out_row(a, s.client, s.server, q, e);
             let newer = in_row(a, s.server, s.client, q, e);
-            let packet = bare(a, q, Payload::Rep(e));
-            writes_rows(older, newer, Item::Out(a, packet))
+            writes_rows(older, newer, Item::Out(a, bare(a, q, Payload::Rep(e))))
         }
         Side::Initiator => {
             let older = out_row(a, s.server, s.client, q, e);
@@ -53,17 +55,15 @@ fn acknowledged(s: Session, a: u8) -> Item
     ensures { result ≡ spec.acknowledged s a }
 {
     if a == s.server {
-        let done = bare(s.server, s.client, Payload::Done);
-        return Item::Out(a, done);
+        return Item::Out(a, bare(s.server, s.client, Payload::Done));
     }
-    let disc = bare(s.client, s.server, Payload::Disc(a));
-    Item::Wire(a, disc)
+    Item::Wire(a, bare(s.client, s.server, Payload::Disc(a)))
 }
 
 // ack(a, e)
+#[tactic(auto, unfolding(model::specs::Rules::ack_rule))]
 pub fn ack(s: Session, a: u8) -> Effect
     ensures { result ≡ spec.ack_rule s a }
 {
-    let item = acknowledged(s, a);
-    writes_for(Wait::Discovery(a), item)
+    writes_for(Some(Wait::Discovery(a)), acknowledged(s, a))
 }

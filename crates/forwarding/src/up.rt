@@ -55,7 +55,7 @@ fn received(a: u8, b: u8, y: Payload) -> Effect
         Payload::Req(e) => writes(Item::Auth(a, b, e, Side::Responder)),
         Payload::Rep(e) => {
             let item = Item::Auth(a, b, e, Side::Initiator);
-            writes_for(Wait::Establishment(a, e), item)
+            writes_for(Some(Wait::Establishment(a, e)), item)
         }
         Payload::Disc(_) => lost(Loss::WrongTunnel),
         Payload::Done => only(Outcome::Opened),

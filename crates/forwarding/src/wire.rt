@@ -5,7 +5,7 @@ ghost use Rattle.model.specs.Packet as packet;
 ghost use Rattle.model.specs.Rules as spec;
 
 use calculus::answer::Loss;
-use calculus::effect::{Added, Begins, Effect, Outcome, Wait};
+use calculus::effect::{Effect, Outcome};
 use calculus::network::{Network, NextHop};
 use calculus::packet::{Item, Packet, Payload};
 use calculus::session::Session;
@@ -51,9 +51,9 @@ fn begin(a: u8, p: u8, e: u8) -> Effect
 {
     Effect {
         outcome: Outcome::WroteTwo(Item::Dwait(a), Item::Est(a, p, e)),
-        wait: Wait::NoWait,
-        added: Added::NoRows,
-        begins: Begins::Next(e),
+        wait: None,
+        added: None,
+        begins: Some(e),
     }
 }
 

@@ -1,7 +1,7 @@
 -- Walks over a list from its front: a search that stops at the first place, and a count. Assumes nothing.
-use mathlib.Core.Path.{◌≡◌, refl, sym, ap}
+use mathlib.Core.Path.{◌≡◌, sym}
 use mathlib.Core.Bool.{Bool, true, false, cond}
-use mathlib.Core.List.{List, [], ◌∷◌}
+use mathlib.Core.List.{List}
 use Prim.Native.Nat.{ℕ, suc, ◌+◌, ◌≤◌, ◌<◌}
 use native.Mathlib.Nat.{zero-add}
 use native.Mathlib.Numerals.{add-one}
@@ -19,11 +19,6 @@ pub record Sought {A : Type 0} (f : A → Bool) (l : List A) (i : ℕ) : Type 0 
 -- f holds of n of the first i elements
 pub record Counted {A : Type 0} (f : A → Bool) (l : List A) (n i : ℕ) : Type 0 where
   pub same : tally f l ≡ n + tally f (drop i l)
-
--- what never holds is found nowhere
-pub place_never : {A : Type 0} (l : List A) → place (λ a. false) l ≡ length l
-place_never [] = refl
-place_never (a ∷ l) = ap suc (place_never l)
 
 module _ {A : Type 0} {f : A → Bool} {l : List A} where
   pub sought_none : Sought f l 0

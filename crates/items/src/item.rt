@@ -1,5 +1,5 @@
 // What an item is: a wait, a packet with Data, or none; and the establishment that it names.
-ghost use Rattle.std.specs.Prelude.{◌≡◌, ◌&&◌, eqb};
+ghost use Rattle.std.specs.Prelude.{◌≡◌};
 ghost use Rattle.model.specs.Item as spec;
 
 use crate::packet::{has_data, has_establishment};
@@ -24,30 +24,13 @@ pub fn is_free(i: Item) -> bool
 }
 
 // The wait that the item is.
-pub fn wait_in(i: Item) -> Wait
+pub fn wait_in(i: Item) -> Option<Wait>
     ensures { result ≡ spec.wait_in i }
 {
     match i {
-        Item::Free => Wait::NoWait,
-        Item::Wire(_, _) => Wait::NoWait,
-        Item::Out(_, _) => Wait::NoWait,
-        Item::Up(_, _) => Wait::NoWait,
-        Item::Est(_, _, _) => Wait::NoWait,
-        Item::Auth(_, _, _, _) => Wait::NoWait,
-        Item::Grant(_, _, _, _) => Wait::NoWait,
-        Item::Ack(_, _) => Wait::NoWait,
-        Item::Dwait(a) => Wait::Discovery(a),
-        Item::Ewait(a, e) => Wait::Establishment(a, e),
-    }
-}
-
-pub fn is_some_wait(w: Wait) -> bool
-    ensures { result ≡ spec.is_some_wait w }
-{
-    match w {
-        Wait::NoWait => false,
-        Wait::Discovery(_) => true,
-        Wait::Establishment(_, _) => true,
+        Item::Dwait(a) => Some(Wait::Discovery(a)),
+        Item::Ewait(a, e) => Some(Wait::Establishment(a, e)),
+        _ => None,
     }
 }
 
@@ -55,35 +38,13 @@ pub fn is_some_wait(w: Wait) -> bool
 pub fn is_wait(i: Item) -> bool
     ensures { result ≡ spec.is_wait i }
 {
-    let wait = wait_in(i);
-    is_some_wait(wait)
+    wait_in(i).is_some()
 }
 
-fn same_pair(a: u8, e: u8, b: u8, f: u8) -> bool
-    ensures { result ≡ (eqb a b && eqb e f) }
+pub fn is_that_wait(w: Wait, i: Item) -> bool
+    ensures { result ≡ spec.is_that_wait w i }
 {
-    if a == b {
-        return e == f;
-    }
-    false
-}
-
-pub fn same_wait(w: Wait, v: Wait) -> bool
-    ensures { result ≡ spec.same_wait w v }
-{
-    match w {
-        Wait::NoWait => false,
-        Wait::Discovery(a) => match v {
-            Wait::NoWait => false,
-            Wait::Discovery(b) => a == b,
-            Wait::Establishment(_, _) => false,
-        },
-        Wait::Establishment(a, e) => match v {
-            Wait::NoWait => false,
-            Wait::Discovery(_) => false,
-            Wait::Establishment(b, f) => same_pair(a, e, b, f),
-        },
-    }
+    wait_in(i) == Some(w)
 }
 
 pub fn is_data_item(i: Item) -> bool

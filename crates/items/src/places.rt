@@ -1,15 +1,16 @@
 // The sixteen places that hold a session's items.
-ghost use Rattle.std.specs.Prelude.{◌≡◌, cond, ◌+◌, ◌≤◌, leb, ltb, set};
+ghost use Rattle.std.specs.Prelude.{◌≡◌, cond, ◌+◌, ◌≤◌, leb, ltb};
 ghost use Rattle.model.specs.Lists as lists;
 ghost use Rattle.model.specs.Item as spec;
 ghost use Rattle.model.specs.State as state;
 ghost use Rattle.items.specs.Wanted.{is_wanted};
 
-use crate::item::{is_data_item, is_free, is_some_wait, names_establishment, same_wait, wait_in};
+use crate::item::{is_data_item, is_free, is_that_wait, names_establishment};
 use calculus::effect::Wait;
 use calculus::number::ItemNumber;
 use calculus::packet::{Item, Slot};
 use lookups::blank::blank_slot;
+use lookups::set::set_at;
 
 // ---- one place
 
@@ -33,9 +34,7 @@ fn is_numbered(k: ItemNumber, s: Slot) -> bool
 fn holds_wait(w: Wait, s: Slot) -> bool
     ensures { result ≡ spec.is_that_wait w s.item }
 {
-    let item = s.item;
-    let wait = wait_in(item);
-    same_wait(w, wait)
+    is_that_wait(w, s.item)
 }
 
 fn holds_data(s: Slot) -> bool
@@ -132,33 +131,22 @@ pub fn is_busy(items: [Slot; 16], e: u8) -> bool
     false
 }
 
-// The places with `s` at `at`; unchanged where that is past them.
-pub fn set_slot(items: [Slot; 16], at: usize, s: Slot) -> [Slot; 16]
-    ensures { result ≡ set items at s }
+// The wait is used up, if there is one.
+#[tactic(auto, unfolding(model::specs::State::use_up))]
+pub fn use_up(items: &mut [Slot; 16], w: Option<Wait>)
+    ensures { items.new ≡ state.use_up items.old w }
 {
-    if at < 16 {
-        let mut next = items;
-        next[at] = s;
-        return next;
+    if let Some(wait) = w {
+        let at = find(*items, Wanted::That(wait));
+        set_at(items, at, blank_slot());
     }
-    items
-}
-
-pub fn use_up(items: [Slot; 16], w: Wait) -> [Slot; 16]
-    ensures { result ≡ state.use_up items w }
-{
-    if is_some_wait(w) {
-        let at = find(items, Wanted::That(w));
-        let blank = blank_slot();
-        return set_slot(items, at, blank);
-    }
-    items
 }
 
 // Item `i`, with the number `n`, goes to the first free place, if there is one.
-pub fn put_item(items: [Slot; 16], n: ItemNumber, i: Item) -> [Slot; 16]
-    ensures { result ≡ state.put_item items n.0 i }
+#[tactic(auto, unfolding(model::specs::State::put_item))]
+pub fn put_item(items: &mut [Slot; 16], n: ItemNumber, i: Item)
+    ensures { items.new ≡ state.put_item items.old n.0 i }
 {
-    let at = find(items, Wanted::Vacancy);
-    set_slot(items, at, Slot { number: n, item: i })
+    let at = find(*items, Wanted::Vacancy);
+    set_at(items, at, Slot { number: n, item: i });
 }

@@ -3,4 +3,5 @@
 
 pub mod blank;
 pub mod network;
+pub mod set;
 pub mod users;

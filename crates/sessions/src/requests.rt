@@ -45,11 +45,11 @@ fn with_item(t: Part, stage: Stage, client: u8, server: u8, i: Item) -> Part
     ensures { result ≡ spec.with_item t stage client server i }
 {
     let s = t.session;
-    let old_items = t.items;
+    let mut items = t.items;
     let rows = t.rows;
     let number = s.last;
     let last = ItemNumber(number.0 + 1);
-    let items = put_item(old_items, last, i);
+    put_item(&mut items, last, i);
     Part {
         session: Session {
             stage,
