@@ -81,8 +81,8 @@ fn onward(next: NextHop, p: Packet) -> Effect
 }
 
 // Onward by the route from `a` to the packet's target, with one hop less.
-fn routed(n: Network, a: u8, p: Packet) -> Effect
-    ensures { result ≡ spec.onward (next_hop n a (packet.target p)) (packet.fewer p) }
+fn routed(n: &Network, a: u8, p: Packet) -> Effect
+    ensures { result ≡ spec.onward (next_hop n.now a (packet.target p)) (packet.fewer p) }
 {
     let to = target(p);
     let next = next_hop(n, a, to);
@@ -100,8 +100,8 @@ fn arrived(a: u8, p: Packet) -> bool
 
 // The first case that fits, where `gateway` tells whether `a` is one.
 #[tactic(auto, unfolding(model::specs::Rules::wire_rule))]
-fn first_fit(gateway: bool, n: Network, s: Session, a: u8, p: Packet) -> Effect
-    ensures { result ≡ spec.wire_rule gateway (next_hop n a) s a p }
+fn first_fit(gateway: bool, n: &Network, s: Session, a: u8, p: Packet) -> Effect
+    ensures { result ≡ spec.wire_rule gateway (next_hop n.now a) s a p }
 {
     let payload = p.payload;
     if discovers(gateway, s.server, a, payload) {
@@ -124,9 +124,8 @@ fn first_fit(gateway: bool, n: Network, s: Session, a: u8, p: Packet) -> Effect
 }
 
 // wire(a, packet, h): h is the packet's count in use.
-pub fn wire(n: Network, s: Session, a: u8, p: Packet) -> Effect
-    ensures { result ≡ spec.wire_rule (is_gateway n a) (next_hop n a) s a p }
+pub fn wire(n: &Network, s: Session, a: u8, p: Packet) -> Effect
+    ensures { result ≡ spec.wire_rule (is_gateway n.now a) (next_hop n.now a) s a p }
 {
-    let gateway = is_gateway(n, a);
-    first_fit(gateway, n, s, a, p)
+    first_fit(is_gateway(n, a), n, s, a, p)
 }

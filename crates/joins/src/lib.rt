@@ -70,9 +70,15 @@ fn refuse(out: &mut [u8], refusal: Refusal) -> JoinReply
 }
 
 // Joins the texts of two networks.
-fn join_networks<'a>(a: &'a [u8], b: &'a [u8], n: Network, m: Network, out: &mut [u8]) -> JoinReply
-    requires { (IsTextOf a.now n × IsTextOf b.now m) × (65536 ≤ length out.old) }
-    ensures { JoinReplies out.old (spec.join_networks n m) out.new result }
+fn join_networks<'a>(
+    a: &'a [u8],
+    b: &'a [u8],
+    n: &Network,
+    m: &Network,
+    out: &mut [u8],
+) -> JoinReply
+    requires { (IsTextOf a.now n.now × IsTextOf b.now m.now) × (65536 ≤ length out.old) }
+    ensures { JoinReplies out.old (spec.join_networks n.now m.now) out.new result }
 {
     if clash(a, b, n, m) {
         return refuse(out, Refusal::Clash);
@@ -106,7 +112,7 @@ pub fn join<'a>(
     if first.sorted {
         let second = find_network(is_b_read, b);
         if second.sorted {
-            return join_networks(a, b, first.network, second.network, out);
+            return join_networks(a, b, &first.network, &second.network, out);
         }
         return refuse(out, Refusal::Unsorted);
     }

@@ -12,17 +12,14 @@ use calculus::network::Network;
 use forms::line::{Line, next_line};
 
 // Whether the network has a line at place k: that of node k + 1 or, behind the 32 nodes, of the route at place k − 32.
-fn has_entry(n: Network, k: usize) -> bool
+fn has_entry(n: &Network, k: usize) -> bool
     requires { k < 1088 }
-    ensures { result ≡ spec.has_entry n k }
+    ensures { result ≡ spec.has_entry n.now k }
 {
     if k < 32 {
-        let nodes = n.nodes;
-        let node = nodes[k];
-        return node.given;
+        return n.nodes[k].given;
     }
-    let routes = n.routes;
-    0 < routes[k - 32]
+    0 < n.routes[k - 32]
 }
 
 // The line of `s` that starts at `from`, with its newline, if it is there; else the empty part.
@@ -52,9 +49,9 @@ fn next_part<'a>(a: &'a [u8], b: &'a [u8], i: usize, j: usize, in_a: bool, in_b:
 }
 
 // Whether the two networks clash: at some place both have a line, and not the same one.
-pub fn clash(a: &[u8], b: &[u8], n: Network, m: Network) -> bool
-    requires { IsTextOf a.now n × IsTextOf b.now m }
-    ensures { result ≡ join.clash n m }
+pub fn clash(a: &[u8], b: &[u8], n: &Network, m: &Network) -> bool
+    requires { IsTextOf a.now n.now × IsTextOf b.now m.now }
+    ensures { result ≡ join.clash n.now m.now }
 {
     let mut i: usize = 0;
     let mut j: usize = 0;
@@ -75,9 +72,9 @@ pub fn clash(a: &[u8], b: &[u8], n: Network, m: Network) -> bool
 }
 
 // The lines of both, in order, those that both have once; answers how many bytes they are.
-pub fn merge<'a>(a: &'a [u8], b: &'a [u8], n: Network, m: Network, out: &mut [u8]) -> usize
-    requires { (IsTextOf a.now n × IsTextOf b.now m) × (65536 ≤ length out.old) }
-    ensures { Front out.old (network_text (join.union n m)) out.new result }
+pub fn merge<'a>(a: &'a [u8], b: &'a [u8], n: &Network, m: &Network, out: &mut [u8]) -> usize
+    requires { (IsTextOf a.now n.now × IsTextOf b.now m.now) × (65536 ≤ length out.old) }
+    ensures { Front out.old (network_text (join.union n.now m.now)) out.new result }
 {
     let mut i: usize = 0;
     let mut j: usize = 0;

@@ -18,23 +18,20 @@ pub fn no_node() -> Node
 }
 
 #[tactic(auto, using(crate::proofs::Nodes::node_bounds, crate::proofs::Within::get_or_within), unfolding(model::specs::Network::node_at))]
-fn node_at(n: Network, a: u8) -> Node
-    ensures { result ≡ spec.node_at n a }
+fn node_at(n: &Network, a: u8) -> Node
+    ensures { result ≡ spec.node_at n.now a }
 {
     if is_node(a as u64) {
-        let at = a as usize - 1;
-        let nodes = n.nodes;
-        return nodes[at];
+        return n.nodes[a as usize - 1];
     }
     no_node()
 }
 
 // Whether node `a` was given.
-pub fn given(n: Network, a: u8) -> bool
-    ensures { result ≡ spec.given n a }
+pub fn given(n: &Network, a: u8) -> bool
+    ensures { result ≡ spec.given n.now a }
 {
-    let found = node_at(n, a);
-    found.given
+    node_at(n, a).given
 }
 
 fn is_gate(k: Kind) -> bool
@@ -47,12 +44,10 @@ fn is_gate(k: Kind) -> bool
 }
 
 // Whether `a` was given as a gateway.
-pub fn is_gateway(n: Network, a: u8) -> bool
-    ensures { result ≡ spec.is_gateway n a }
+pub fn is_gateway(n: &Network, a: u8) -> bool
+    ensures { result ≡ spec.is_gateway n.now a }
 {
-    let node = node_at(n, a);
-    let kind = node.kind;
-    is_gate(kind)
+    is_gate(node_at(n, a).kind)
 }
 
 // The place of the route from node `a` for destination `b`.
@@ -63,20 +58,19 @@ pub fn route_place(a: u8, b: u8) -> usize
 }
 
 // The next node of the route from node `a` for destination `b`, 0 where none was given; past the end of the table there is none.
-pub fn route_to(n: Network, a: u8, b: u8) -> u8
-    ensures { result ≡ spec.route_to n a b }
+pub fn route_to(n: &Network, a: u8, b: u8) -> u8
+    ensures { result ≡ spec.route_to n.now a b }
 {
     let at = route_place(a, b);
-    let routes = n.routes;
     if at < 1056 {
-        return routes[at];
+        return n.routes[at];
     }
     0
 }
 
 // By a route of its own, else by the default, which is asked only then.
-fn hop(n: Network, a: u8, b: u8) -> NextHop
-    ensures { result ≡ spec.hop (spec.route_to n a b) (spec.route_to n a 0) }
+fn hop(n: &Network, a: u8, b: u8) -> NextHop
+    ensures { result ≡ spec.hop (spec.route_to n.now a b) (spec.route_to n.now a 0) }
 {
     let exact = route_to(n, a, b);
     if 0 < exact {
@@ -91,13 +85,11 @@ fn hop(n: Network, a: u8, b: u8) -> NextHop
 
 // The next hop from `a` for `b`; none where `a` or `b` is no node.
 #[tactic(auto, unfolding(model::specs::Network::next_hop))]
-pub fn next_hop(n: Network, a: u8, b: u8) -> NextHop
-    ensures { result ≡ spec.next_hop n a b }
+pub fn next_hop(n: &Network, a: u8, b: u8) -> NextHop
+    ensures { result ≡ spec.next_hop n.now a b }
 {
-    if is_node(a as u64) {
-        if is_node(b as u64) {
-            return hop(n, a, b);
-        }
+    if is_node(a as u64) && is_node(b as u64) {
+        return hop(n, a, b);
     }
     NextHop::Missing
 }
@@ -106,15 +98,12 @@ pub fn next_hop(n: Network, a: u8, b: u8) -> NextHop
 fn is_met(has: bool, needs: bool) -> bool
     ensures { result ≡ (has || not needs) }
 {
-    if has {
-        return true;
-    }
-    !needs
+    has || !needs
 }
 
 // Whether every credential of `needs` is in `has`.
-fn covers(has: [bool; 64], needs: [bool; 64]) -> bool
-    ensures { result ≡ spec.covers has needs }
+fn covers(has: &[bool; 64], needs: &[bool; 64]) -> bool
+    ensures { result ≡ spec.covers has.now needs.now }
 {
     let mut i: usize = 0;
     while i < 64 {
@@ -129,12 +118,10 @@ fn covers(has: [bool; 64], needs: [bool; 64]) -> bool
 
 // Whether `q` has all that `a` needs.
 #[tactic(auto, unfolding(model::specs::Network::has_all_needed))]
-pub fn has_all_needed(n: Network, a: u8, q: u8) -> bool
-    ensures { result ≡ spec.has_all_needed n a q }
+pub fn has_all_needed(n: &Network, a: u8, q: u8) -> bool
+    ensures { result ≡ spec.has_all_needed n.now a q }
 {
     let peer = node_at(n, q);
     let node = node_at(n, a);
-    let has = peer.has;
-    let needs = node.needs;
-    covers(has, needs)
+    covers(&peer.has, &node.needs)
 }

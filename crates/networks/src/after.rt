@@ -1,5 +1,5 @@
 // The network that an accepted node or route call leaves.
-ghost use Rattle.std.specs.Prelude.{◌≡◌, cond};
+ghost use Rattle.std.specs.Prelude.{◌≡◌, cond, set};
 ghost use Rattle.model.specs.Requests as spec;
 ghost use Rattle.model.specs.Turn as turns;
 
@@ -10,38 +10,36 @@ use calculus::request::Request;
 use forms::read::{Parsed, Reading};
 use lookups::network::route_place;
 
-// Past the end of a table nothing is stored, as the definition has it.
-fn with_node(n: Network, a: u8, kind: Kind, has: [bool; 64], needs: [bool; 64]) -> Network
-    ensures { result ≡ spec.with_node n a kind has needs }
+// Past the end of a table nothing is stored, as the definitions have it.
+fn store<T: Copy>(table: &mut [T], at: usize, x: T)
+    ensures { table.new ≡ set table.old at x }
 {
-    let at = pred(a) as usize;
-    let mut next = n;
-    if at < 32 {
-        let node = Node {
-            given: true,
-            kind,
-            has,
-            needs,
-        };
-        next.nodes[at] = node;
+    if at < table.len() {
+        table[at] = x;
     }
-    next
 }
 
-fn with_route(n: Network, a: u8, b: u8, hop: u8) -> Network
-    ensures { result ≡ spec.with_route n a b hop }
+fn with_node(n: &mut Network, a: u8, kind: Kind, has: [bool; 64], needs: [bool; 64])
+    ensures { n.new ≡ spec.with_node n.old a kind has needs }
 {
-    let at = route_place(a, b);
-    let mut next = n;
-    if at < 1056 {
-        next.routes[at] = hop;
-    }
-    next
+    let node = Node {
+        given: true,
+        kind,
+        has,
+        needs,
+    };
+    store(&mut n.nodes, pred(a) as usize, node);
+}
+
+fn with_route(n: &mut Network, a: u8, b: u8, hop: u8)
+    ensures { n.new ≡ spec.with_route n.old a b hop }
+{
+    store(&mut n.routes, route_place(a, b), hop);
 }
 
 // The network with what a node or route call gives.
-fn network_with(n: Network, has: [bool; 64], needs: [bool; 64], q: Request) -> Network
-    ensures { result ≡ turns.network_with n has needs q }
+fn network_with(n: &mut Network, has: [bool; 64], needs: [bool; 64], q: Request)
+    ensures { n.new ≡ turns.network_with n.old has needs q }
 {
     match q {
         Request::Node(a, kind) => with_node(n, a, kind, has, needs),
@@ -50,26 +48,15 @@ fn network_with(n: Network, has: [bool; 64], needs: [bool; 64], q: Request) -> N
             destination,
             next,
         } => with_route(n, at, destination, next),
-        Request::Open {
-            session: _,
-            client: _,
-            server: _,
-        } => n,
-        Request::Step(_, _) => n,
-        Request::Send(_, _, _) => n,
-        Request::Close(_) => n,
-        Request::Show => n,
-        Request::Net => n,
-        Request::Drop(_, _) => n,
+        _ => {}
     }
 }
 
-fn network_of(n: Network, has: [bool; 64], needs: [bool; 64], p: Parsed) -> Network
-    ensures { result ≡ turns.network_of n has needs p }
+fn network_of(n: &mut Network, has: [bool; 64], needs: [bool; 64], p: Parsed)
+    ensures { n.new ≡ turns.network_of n.old has needs p }
 {
-    match p {
-        Parsed::Asks(q) => network_with(n, has, needs, q),
-        Parsed::Refused(_) => n,
+    if let Parsed::Asks(q) = p {
+        network_with(n, has, needs, q);
     }
 }
 
@@ -79,27 +66,15 @@ fn is_ok(answer: Answer) -> bool
 {
     match answer {
         Answer::Ok => true,
-        Answer::Made(_) => false,
-        Answer::MadeByDefault(_) => false,
-        Answer::MadeTwo(_, _) => false,
-        Answer::Lost(_) => false,
-        Answer::Denied => false,
-        Answer::Opened => false,
-        Answer::Delivered(_) => false,
-        Answer::Closed => false,
-        Answer::No(_) => false,
+        _ => false,
     }
 }
 
-// The network once the line that was read as `r` is answered: with what an accepted node or route call gives.
-pub fn network_after(n: Network, r: Reading, answer: Answer) -> Network
-    ensures { result ≡ cond (turns.answers_ok answer) (turns.network_of n r.has r.needs r.parsed) n }
+// Adds to the network, once the line that was read as `r` is answered, what an accepted node or route call gives.
+pub fn network_after(n: &mut Network, r: Reading, answer: Answer)
+    ensures { n.new ≡ cond (turns.answers_ok answer) (turns.network_of n.old r.has r.needs r.parsed) n.old }
 {
     if is_ok(answer) {
-        let has = r.has;
-        let needs = r.needs;
-        let parsed = r.parsed;
-        return network_of(n, has, needs, parsed);
+        network_of(n, r.has, r.needs, r.parsed);
     }
-    n
 }

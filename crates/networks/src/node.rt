@@ -9,8 +9,8 @@ use lookups::network::given;
 
 // node a: refusals 5, 3.
 #[tactic(auto, unfolding(model::specs::Requests::checked))]
-pub fn node_answer(opened: bool, n: Network, a: u8) -> Answer
-    ensures { result ≡ spec.checked No (spec.node_checks opened n a) Ok }
+pub fn node_answer(opened: bool, n: &Network, a: u8) -> Answer
+    ensures { result ≡ spec.checked No (spec.node_checks opened n.now a) Ok }
 {
     if opened {
         return Answer::No(Refusal::Late);

@@ -9,46 +9,34 @@ use calculus::network::Network;
 use lookups::network::{given, route_to};
 
 // Whether the destination is 0, or a node that was given.
-fn is_destination_given(n: Network, b: u8) -> bool
-    ensures { result ≡ spec.destination_given n b }
+fn is_destination_given(n: &Network, b: u8) -> bool
+    ensures { result ≡ spec.destination_given n.now b }
 {
-    if b == 0 {
-        return true;
-    }
-    given(n, b)
+    b == 0 || given(n, b)
 }
 
-fn is_route_unknown(n: Network, a: u8, b: u8, hop: u8) -> bool
-    ensures { result ≡ not (spec.nodes_given n a b hop) }
+fn is_route_unknown(n: &Network, a: u8, b: u8, hop: u8) -> bool
+    ensures { result ≡ not (spec.nodes_given n.now a b hop) }
 {
-    if given(n, a) {
-        if is_destination_given(n, b) {
-            return !given(n, hop);
-        }
-    }
-    true
+    !(given(n, a) && is_destination_given(n, b) && given(n, hop))
 }
 
 fn is_same(a: u8, b: u8, hop: u8) -> bool
     ensures { result ≡ spec.leads_back a b hop }
 {
-    if a == b {
-        return true;
-    }
-    a == hop
+    a == b || a == hop
 }
 
-fn has_route(n: Network, a: u8, b: u8) -> bool
-    ensures { result ≡ network.is_routed n a b }
+fn has_route(n: &Network, a: u8, b: u8) -> bool
+    ensures { result ≡ network.is_routed n.now a b }
 {
-    let next = route_to(n, a, b);
-    0 < next
+    0 < route_to(n, a, b)
 }
 
 // route a b hop: refusals 5, 4, 8, 3.
 #[tactic(auto, unfolding(model::specs::Requests::checked))]
-pub fn route_answer(opened: bool, n: Network, a: u8, b: u8, hop: u8) -> Answer
-    ensures { result ≡ spec.checked No (spec.route_checks opened n a b hop) Ok }
+pub fn route_answer(opened: bool, n: &Network, a: u8, b: u8, hop: u8) -> Answer
+    ensures { result ≡ spec.checked No (spec.route_checks opened n.now a b hop) Ok }
 {
     if opened {
         return Answer::No(Refusal::Late);

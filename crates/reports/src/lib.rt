@@ -61,13 +61,13 @@ fn report_of(p: Parsed) -> Report
 fn put_lines(
     out: &mut [u8],
     at: usize,
-    n: Network,
+    n: &Network,
     users: &[u16; 2048],
     answer: Answer,
     report: Report,
 ) -> usize
     requires { at + 65536 ≤ length out.old }
-    ensures { Puts 65536 out.old at (lines_text (turns.lines_as n users.now answer report)) out.new result }
+    ensures { Puts 65536 out.old at (lines_text (turns.lines_as n.now users.now answer report)) out.new result }
 {
     match report {
         Report::NoReport => write(out, at, answer),
@@ -81,12 +81,12 @@ fn put_lines(
 pub fn write_lines(
     out: &mut [u8],
     at: usize,
-    n: Network,
+    n: &Network,
     users: &[u16; 2048],
     p: Parsed,
     answer: Answer,
 ) -> usize
-    ensures { Writes 65536 out.old at (lines_text (turns.lines_as n users.now answer (turns.report_of p))) out.new result }
+    ensures { Writes 65536 out.old at (lines_text (turns.lines_as n.now users.now answer (turns.report_of p))) out.new result }
 {
     if has_room(out.len(), at, ROOM) {
         let report = report_of(p);

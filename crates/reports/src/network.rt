@@ -11,29 +11,25 @@ use answers::report::{write_node, write_route};
 use calculus::network::{Network, Node};
 
 // Node a's line, if it was given.
-fn put_node(out: &mut [u8], at: usize, a: u8, node: Node) -> usize
+fn put_node(out: &mut [u8], at: usize, a: u8, node: &Node) -> usize
     requires { at + 400 ≤ length out.old }
-    ensures { Puts 400 out.old at (joined (map form_line (node_form a node))) out.new result }
+    ensures { Puts 400 out.old at (joined (map form_line (node_form a node.now))) out.new result }
 {
     if node.given {
-        let kind = node.kind;
-        let has = node.has;
-        let needs = node.needs;
-        return write_node(out, at, a, kind, has, needs);
+        return write_node(out, at, a, node.kind, node.has, node.needs);
     }
     at
 }
 
 // The lines of all nodes that were given, rising.
-fn put_nodes(out: &mut [u8], at: usize, nodes: [Node; 32]) -> usize
+fn put_nodes(out: &mut [u8], at: usize, nodes: &[Node; 32]) -> usize
     requires { at + 12800 ≤ length out.old }
-    ensures { Puts 12800 out.old at (joined (map form_line (entries_from node_form 1 nodes))) out.new result }
+    ensures { Puts 12800 out.old at (joined (map form_line (entries_from node_form 1 nodes.now))) out.new result }
 {
     let mut next = at;
     let mut i: usize = 0;
     while i < 32 {
-        let node = nodes[i];
-        next = put_node(out, next, i as u8 + 1, node);
+        next = put_node(out, next, i as u8 + 1, &nodes[i]);
         i += 1;
     }
     next
@@ -53,9 +49,9 @@ fn put_route(out: &mut [u8], at: usize, p: usize, hop: u8) -> usize
 }
 
 // The lines of all routes, by at, then by destination: the table's order.
-fn put_routes(out: &mut [u8], at: usize, routes: [u8; 1056]) -> usize
+fn put_routes(out: &mut [u8], at: usize, routes: &[u8; 1056]) -> usize
     requires { at + 33792 ≤ length out.old }
-    ensures { Puts 33792 out.old at (joined (map form_line (entries_from route_form 0 routes))) out.new result }
+    ensures { Puts 33792 out.old at (joined (map form_line (entries_from route_form 0 routes.now))) out.new result }
 {
     let mut next = at;
     let mut i: usize = 0;
@@ -67,12 +63,10 @@ fn put_routes(out: &mut [u8], at: usize, routes: [u8; 1056]) -> usize
 }
 
 // The nodes, then the routes.
-pub fn put_network(out: &mut [u8], at: usize, n: Network) -> usize
+pub fn put_network(out: &mut [u8], at: usize, n: &Network) -> usize
     requires { at + 65536 ≤ length out.old }
-    ensures { Puts 65536 out.old at (network_text n) out.new result }
+    ensures { Puts 65536 out.old at (network_text n.now) out.new result }
 {
-    let nodes = n.nodes;
-    let next = put_nodes(out, at, nodes);
-    let routes = n.routes;
-    put_routes(out, next, routes)
+    let next = put_nodes(out, at, &n.nodes);
+    put_routes(out, next, &n.routes)
 }

@@ -17,8 +17,8 @@ use forwarding::wire::wire;
 use lookups::network::has_all_needed;
 
 // Auth, with whether q has all that a needs.
-fn auth_at(n: Network, a: u8, q: u8, e: u8, side: Side) -> Effect
-    ensures { result ≡ spec.auth_rule (has_all_needed n a q) a q e side }
+fn auth_at(n: &Network, a: u8, q: u8, e: u8, side: Side) -> Effect
+    ensures { result ≡ spec.auth_rule (has_all_needed n.now a q) a q e side }
 {
     let enough = has_all_needed(n, a, q);
     auth(enough, a, q, e, side)
@@ -32,8 +32,8 @@ fn never_met() -> Effect
 }
 
 // What the item's rule does, for the session whose part is `t`.
-pub fn rule(n: Network, users: &[u16; 2048], t: Part, i: Item) -> Effect
-    ensures { result ≡ spec.rule n (row.stands users.now false) t i }
+pub fn rule(n: &Network, users: &[u16; 2048], t: Part, i: Item) -> Effect
+    ensures { result ≡ spec.rule n.now (row.stands users.now false) t i }
 {
     let s = t.session;
     let rows = t.rows;

@@ -66,22 +66,16 @@ fn with_item(t: Part, stage: Stage, client: u8, server: u8, i: Item) -> Part
 
 // ---- open
 
-fn is_end_unknown(n: Network, c: u8, d: u8) -> bool
-    ensures { result ≡ not (network.given n c && network.given n d) }
+fn is_end_unknown(n: &Network, c: u8, d: u8) -> bool
+    ensures { result ≡ not (network.given n.now c && network.given n.now d) }
 {
-    if given(n, c) {
-        return !given(n, d);
-    }
-    true
+    !(given(n, c) && given(n, d))
 }
 
-fn has_gateway(n: Network, c: u8, d: u8) -> bool
-    ensures { result ≡ (network.is_gateway n c || network.is_gateway n d) }
+fn has_gateway(n: &Network, c: u8, d: u8) -> bool
+    ensures { result ≡ (network.is_gateway n.now c || network.is_gateway n.now d) }
 {
-    if is_gateway(n, c) {
-        return true;
-    }
-    is_gateway(n, d)
+    is_gateway(n, c) || is_gateway(n, d)
 }
 
 fn opening(t: Part, c: u8, d: u8) -> Part
@@ -93,8 +87,8 @@ fn opening(t: Part, c: u8, d: u8) -> Part
 }
 
 // open u c d, where `t` is u's part: refusals 6, 4, 8, 9, 10.
-pub fn open(n: Network, t: Part, c: u8, d: u8) -> Moved
-    ensures { result ≡ moving t (spec.open_move n c d t) }
+pub fn open(n: &Network, t: Part, c: u8, d: u8) -> Moved
+    ensures { result ≡ moving t (spec.open_move n.now c d t) }
 {
     let s = t.session;
     let stage = s.stage;
@@ -126,8 +120,8 @@ pub fn open(n: Network, t: Part, c: u8, d: u8) -> Moved
 
 // A step of the item at `at`, or of none where that is past the places: refusals 7, 11, 12, 10.
 #[tactic(auto, unfolding(model::specs::Requests::step_at, model::specs::Requests::checked))]
-fn step_at(n: Network, users: &mut [u16; 2048], t: Part, at: usize) -> Moved
-    ensures { Moves users.old t (spec.step_at n (stands users.old false) t at) users.new result }
+fn step_at(n: &Network, users: &mut [u16; 2048], t: Part, at: usize) -> Moved
+    ensures { Moves users.old t (spec.step_at n.now (stands users.old false) t at) users.new result }
 {
     let s = t.session;
     let stage = s.stage;
@@ -148,8 +142,8 @@ fn step_at(n: Network, users: &mut [u16; 2048], t: Part, at: usize) -> Moved
 }
 
 // step u k, where `t` is u's part.
-pub fn step(n: Network, users: &mut [u16; 2048], t: Part, k: ItemNumber) -> Moved
-    ensures { Moves users.old t (spec.step_move n (stands users.old false) k.0 t) users.new result }
+pub fn step(n: &Network, users: &mut [u16; 2048], t: Part, k: ItemNumber) -> Moved
+    ensures { Moves users.old t (spec.step_move n.now (stands users.old false) k.0 t) users.new result }
 {
     let items = t.items;
     let at = find(items, Wanted::Number(k));

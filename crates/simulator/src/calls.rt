@@ -63,13 +63,13 @@ pub fn calls(s: State, text: &[u8], out: &mut [u8]) -> Answered
                 let session = session_of(parsed);
                 let at = session.0 as usize - 1;
                 let part = parts[at];
-                let moved = turn(opened, network, &mut users, part, parsed);
+                let moved = turn(opened, &network, &mut users, part, parsed);
                 let answer = moved.answer;
                 let left = moved.part;
                 parts[at] = left;
                 opened = is_opened(moved.opens, opened);
-                written = write_lines(out, written, network, &users, parsed, answer);
-                network = network_after(network, reading, answer);
+                written = write_lines(out, written, &network, &users, parsed, answer);
+                network_after(&mut network, reading, answer);
                 from = next;
             }
             Line::End => {

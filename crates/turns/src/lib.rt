@@ -79,8 +79,8 @@ fn closed(users: &mut [u16; 2048], t: Part) -> Moved
 }
 
 // What a request does to the part `t` and to the users, and its answer.
-fn requested(opened: bool, n: Network, users: &mut [u16; 2048], t: Part, q: Request) -> Moved
-    ensures { (result ≡ turns.requested_of opened n users.old t q) × (users.new ≡ turns.users_with n users.old t q) }
+fn requested(opened: bool, n: &Network, users: &mut [u16; 2048], t: Part, q: Request) -> Moved
+    ensures { (result ≡ turns.requested_of opened n.now users.old t q) × (users.new ≡ turns.users_with n.now users.old t q) }
 {
     match q {
         Request::Node(a, _) => {
@@ -110,8 +110,8 @@ fn requested(opened: bool, n: Network, users: &mut [u16; 2048], t: Part, q: Requ
 }
 
 // What a line does to the part `t` of its session and to the users, and its answer.
-pub fn turn(opened: bool, n: Network, users: &mut [u16; 2048], t: Part, p: Parsed) -> Moved
-    ensures { (result ≡ turns.turn_of opened n users.old t p) × (users.new ≡ turns.users_of n users.old t p) }
+pub fn turn(opened: bool, n: &Network, users: &mut [u16; 2048], t: Part, p: Parsed) -> Moved
+    ensures { (result ≡ turns.turn_of opened n.now users.old t p) × (users.new ≡ turns.users_of n.now users.old t p) }
 {
     match p {
         Parsed::Asks(q) => requested(opened, n, users, t, q),

@@ -9,5 +9,5 @@ use Rattle.reports.proofs.network.put_network.Goals as goal
 
 pub returns : goal.returns
 returns c =
-    rw (lines_append form_line (entries_from node_form 1 c.args.n.nodes) (entries_from route_form 0 c.args.n.routes))
+    rw (lines_append form_line (entries_from node_form 1 c.args.n.now.nodes) (entries_from route_form 0 c.args.n.now.routes))
     (puts_append c.put_nodes-next.ensures c.put_routes.ensures (omega arith))

@@ -40,7 +40,7 @@ loop-going-preserved-in-Found c =
     answering_more c.loop-going.invariant c.loop-going-test.true (found (goal.at.loop-going-preserved-in-Found c).In-Found)
     c.read-reading.result (record { same = c.read-reading.ensures }) c.session_of-session.result.0 (rw c.session_of-session.ensures)
     c.turn-moved.result c.turn-moved.new.users _ c.turn-moved.ensures.0 c.turn-moved.ensures.1 w c.is_opened-opened.result
-    c.is_opened-opened.ensures c.network_after-network.result c.network_after-network.ensures c.write_lines-written.ensures
+    c.is_opened-opened.ensures c.network_after.new.n c.network_after.ensures c.write_lines-written.ensures
 
 pub loop-going-preserved : goal.loop-going-preserved
 loop-going-preserved c = answering_over c.loop-going.invariant (sym c.in-End.ensures)
