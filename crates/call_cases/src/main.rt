@@ -6,7 +6,6 @@
 ghost use Rattle.std.specs.Prelude.{◌≤◌, length, IfOk};
 
 use calculus::state::State;
-use forms::line::Line;
 use lines::line_at;
 use simulator::call::{Status, call};
 use std::io::{self, Print, Read};
@@ -90,16 +89,9 @@ fn put_both(rt: &HostRuntime, state: State, line: &[u8]) -> io::Result<State> {
 fn put_lines(rt: &HostRuntime, text: &[u8]) -> io::Result<()> {
     let mut state = fresh();
     let mut from: usize = 0;
-    loop {
-        match line_at(text, from) {
-            Line::Found { stop, next } => {
-                state = put_both(rt, state, &text[from..stop])?;
-                from = next;
-            }
-            Line::End => {
-                break;
-            }
-        }
+    while let Some(line) = line_at(text, from) {
+        state = put_both(rt, state, &text[from..line.stop])?;
+        from = line.next;
     }
     Ok(())
 }

@@ -9,7 +9,7 @@ use calculus::answer::{Answer, Loss, Refusal, ShownAssociation};
 use calculus::network::Kind;
 use calculus::number::{ItemNumber, Spi};
 use calculus::request::{Request, Sender};
-use forms::line::{Line, next_line};
+use forms::line::next_line;
 use forms::read::{Parsed, read};
 use std::io::{self, Print, Read};
 
@@ -264,16 +264,9 @@ fn main(rt: HostRuntime) -> io::Result<()> {
     let n = read_full(&rt, &mut input)?;
     let text = &input[..n];
     let mut from = 0;
-    loop {
-        match next_line(text, from) {
-            Line::Found { stop, next } => {
-                put_line(&rt, &text[from..stop])?;
-                from = next;
-            }
-            Line::End => {
-                break;
-            }
-        }
+    while let Some(line) = next_line(text, from) {
+        put_line(&rt, &text[from..line.stop])?;
+        from = line.next;
     }
     put_answers(&rt)?;
     put_reports(&rt)

@@ -5,13 +5,13 @@ use Prim.Native.String.{String}
 use lib.ListN.{replicate}
 use mathlib.Core.Bool.{false}
 use mathlib.Core.Option.{none, some}
+use Rattle.std.specs.Prelude.{Some, None}
 use Rattle.calculus.specs.declared.answer.Answer.TheVariants.{Ok, Made, MadeByDefault, MadeTwo, Lost, Delivered, No}
 use Rattle.calculus.specs.declared.answer.Loss.TheVariants.{HopLimit}
 use Rattle.calculus.specs.declared.answer.Refusal.TheVariants.{Waiting, Range, Busy, NoSuchTunnel}
 use Rattle.calculus.specs.declared.network.Kind.TheVariants.{Host, Gateway}
 use Rattle.calculus.specs.declared.request.Request.TheVariants.{Route, Step, Drop}
 use Rattle.calculus.specs.Number.{spi}
-use Rattle.forms.specs.declared.line.Line.TheVariants as line
 use Rattle.forms.specs.declared.read.Parsed.TheVariants.{Asks, Refused}
 use Rattle.forms.specs.Bytes.{bytes, decimal, digits_of}
 use Rattle.forms.specs.Text.{Form, node, route, «open», step, send, close, show, net, take_down, list_text, text}
@@ -78,6 +78,7 @@ lines_split : map (λ s. lines (bytes s)) ("" ∷ "a\nb" ∷ "a\n\n" ∷ [])
 unfolding lines
 lines_split = refl
 
-line_places : map (next_line (bytes "ab\nc")) (0 ∷ 3 ∷ 4 ∷ []) ≡ line.Found 2 3 ∷ line.Found 4 4 ∷ line.End ∷ []
+line_places : map (next_line (bytes "ab\nc")) (0 ∷ 3 ∷ 4 ∷ [])
+    ≡ Some (record { stop = 2; next = 3 }) ∷ Some (record { stop = 4; next = 4 }) ∷ None ∷ []
 unfolding line_length
 line_places = refl

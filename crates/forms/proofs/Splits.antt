@@ -2,6 +2,9 @@
 use mathlib.Core.Path.{◌≡◌, refl, ap, ◌∙◌}
 use mathlib.Core.Bool.{Bool, true, false, cond}
 use mathlib.Core.List.{List, [], ◌∷◌}
+use Rattle.std.specs.Prelude.{Some, None, position, unwrap_or}
+use Rattle.std.specs.List.{position_or_len}
+use Rattle.std.proofs.lemmas.List.Recursion.{is_position_or_len}
 use Prim.Native.Nat.{ℕ, suc, ◌+◌, ◌-◌, ◌≤◌, ◌<◌}
 use native.Mathlib.Omega.{arith}
 use native.Mathlib.Numerals.{add-one}
@@ -10,37 +13,12 @@ use lib.Dec.{ltb, eqb}
 use lib.ListN.{length, get_or, take, drop, length-drop, drop_of_length-le}
 use lib.Seq.{drop-drop}
 use Rattle.calculus.proofs.Tests.{Way, is, isnt, way, clash}
-use Rattle.forms.specs.declared.line.Line.TheVariants.{Found, End}
+use Rattle.forms.specs.declared.line.Line.{Line}
 use Rattle.forms.specs.Line.{line_length, line_to, next_line, with_first, lines, lines_by, SplitsLines}
-use Rattle.forms.proofs.Loops.{drop_next}
 
 -- ---- the end of a line
 
--- no newline stands between `from` and i
-pub record Passed (l : List ℕ) (from i : ℕ) : Type 0 where
-  pub inside : i ≤ length l
-  pub same : from + line_length (drop from l) ≡ i + line_length (drop i l)
-
-module _ {l : List ℕ} {from i : ℕ} (m : Passed l from i) (h : i < length l) where
-  pub passed_more : (get_or l i 0 ≡ 10 → ⊥) → Passed l from (i + 1)
-  unfolding line_length
-  passed_more e =
-      let w : line_length (drop i l) ≡ suc (line_length (drop (i + 1) l)) = rw (drop_next l i h, ne_eqb (get_or l i 0) 10 e) in
-      record { inside = omega arith; same = omega (arith, m.same, w) }
-
-  pub passed_newline : get_or l i 0 ≡ 10 → i ≡ from + line_length (drop from l)
-  unfolding line_length
-  passed_newline e =
-      let w : line_length (drop i l) ≡ 0 = rw (drop_next l i h, eq-eqb (get_or l i 0) 10 e) in
-      omega (arith, m.same, w)
-
-pub passed_all : {l : List ℕ} {from i : ℕ} → Passed l from i → length l ≤ i → i ≡ from + line_length (drop from l)
-unfolding line_length
-passed_all {l} {from} {i} m h =
-    let w : line_length (drop i l) ≡ 0 = rw (drop_of_length-le l h) in
-    omega (arith, m.same, w)
-
-line_length_inside : (l : List ℕ) → line_length l ≤ length l
+pub line_length_inside : (l : List ℕ) → line_length l ≤ length l
 unfolding line_length
 line_length_inside [] = omega arith
 line_length_inside (c ∷ l) = go (eqb c 10) (line_length_inside l)
@@ -48,6 +26,18 @@ line_length_inside (c ∷ l) = go (eqb c 10) (line_length_inside l)
     go : (b : Bool) → line_length l ≤ length l → cond b 0 (suc (line_length l)) ≤ suc (length l)
     go true h = omega arith
     go false h = omega arith
+
+-- a line ends at its first newline, or at the end of the input
+pub first_newline : (l : List ℕ) → unwrap_or (position (λ c. eqb c 10) l) (length l) ≡ line_length l
+unfolding line_length
+first_newline l = go (position_or_len (λ c. eqb c 10) l) (is_position_or_len line_length (λ c. eqb c 10) refl (λ c r. let n : 1 + line_length r ≡ suc (line_length r) = omega arith in rw n refl) l)
+  where
+    go : (k : ℕ) → line_length l ≡ k → unwrap_or (cond (ltb k (length l)) (Some k) None) (length l) ≡ line_length l
+    go k e = found (way (ltb k (length l)))
+      where
+        found : Way (ltb k (length l)) → unwrap_or (cond (ltb k (length l)) (Some k) None) (length l) ≡ line_length l
+        found (is f) = rw (f, e)
+        found (isnt f) = rw f (omega (arith, ltb-false k (length l) f, line_length_inside l))
 
 -- ---- where a line stands
 
@@ -58,38 +48,30 @@ pub record Inside (l : List ℕ) (from stop next : ℕ) : Type 0 where
   pub more : from < next
   pub within : next ≤ length l
 
-pub line_inside : (l : List ℕ) (from stop next : ℕ) → next_line l from ≡ Found stop next → Inside l from stop next
-line_inside l from stop next = go (way (ltb from (length l))) (line_length (drop from l)) (line_length_inside (drop from l))
+pub line_inside : (l : List ℕ) (from : ℕ) (x : Line) → next_line l from ≡ Some x → Inside l from x.stop x.next
+line_inside l from x = go (way (ltb from (length l))) (line_length (drop from l)) (line_length_inside (drop from l))
   where
     go : Way (ltb from (length l)) → (k : ℕ) → k ≤ length (drop from l)
-        → cond (ltb from (length l)) (line_to l (from + k)) End ≡ Found stop next → Inside l from stop next
+        → cond (ltb from (length l)) (line_to l (from + k)) None ≡ Some x → Inside l from x.stop x.next
     go (isnt e) k h q =
-        let q' : End ≡ Found stop next = rw e at q in
+        let q' : None ≡ Some x = rw e at q in
         clash cc
-    go (is e) k h q = found (way (ltb (from + k) (length l)))
+    go (is e) k h q =
+        let q' : line_to l (from + k) ≡ Some x = rw e at q in
+        let same : record { stop = from + k; next = cond (ltb (from + k) (length l)) (from + k + 1) (from + k) } ≡ x = cc in
+        rw (← same) (found (way (ltb (from + k) (length l))))
       where
-        q' : line_to l (from + k) ≡ Found stop next
-        q' = rw e at q
-
-        es : from + k ≡ stop
-        es = cc
-
-        en : cond (ltb (from + k) (length l)) (from + k + 1) (from + k) ≡ next
-        en = cc
-
         size : length (drop from l) ≡ length l - from
         size = length-drop from l
 
-        found : Way (ltb (from + k) (length l)) → Inside l from stop next
+        found : Way (ltb (from + k) (length l)) → Inside l from (from + k) (cond (ltb (from + k) (length l)) (from + k + 1) (from + k))
         found (is f) =
-            let n : from + k + 1 ≡ next = rw f at en in
             let a = ltb-true (from + k) (length l) f in
-            record { starts = omega (arith, es); ends = omega (arith, es); more = omega arith; within = omega arith }
+            rw f (record { starts = omega arith; ends = omega arith; more = omega arith; within = omega arith })
         found (isnt f) =
-            let n : from + k ≡ next = rw f at en in
             let a = ltb-false (from + k) (length l) f in
             let b = ltb-true from (length l) e in
-            record { starts = omega (arith, es); ends = omega (arith, es); more = omega arith; within = omega (arith, size) }
+            rw f (record { starts = omega arith; ends = omega arith; more = omega arith; within = omega (arith, size) })
 
 -- ---- the first line, and the others
 
@@ -128,7 +110,7 @@ lines_split l from = go (way (ltb from (length l))) (line_length (drop from l)) 
   where
     go : Way (ltb from (length l)) → (k : ℕ)
         → (0 < length (drop from l) → lines (drop from l) ≡ take k (drop from l) ∷ lines (drop (suc k) (drop from l)))
-        → lines (drop from l) ≡ lines_by l from (cond (ltb from (length l)) (line_to l (from + k)) End)
+        → lines (drop from l) ≡ lines_by l from (cond (ltb from (length l)) (line_to l (from + k)) None)
     go (isnt e) k h = rw (e, drop_of_length-le l (ltb-false from (length l) e))
     go (is e) k h =
         let d : from + k - from ≡ k = omega arith in

@@ -1,42 +1,38 @@
 // Input split into lines.
-ghost use Rattle.std.specs.Prelude.{◌≡◌, ◌+◌, ◌≤◌, length, drop};
+ghost use Rattle.std.specs.Prelude.{◌≡◌, eqb, position};
 ghost use Rattle.forms.specs.Line as spec;
 
-// The line that was asked for ends before `stop`, and the next starts at `next`; or the input is at its end.
+// A line ends before `stop`, and the next starts at `next`.
 #[derive(Clone, Copy)]
-pub enum Line {
-    Found { stop: usize, next: usize },
-    End,
+pub struct Line {
+    pub stop: usize,
+    pub next: usize,
 }
 
-// Where the line that starts at `from` ends.
-fn line_end(input: &[u8], from: usize) -> usize
-    requires { from ≤ length input.now }
-    ensures { result ≡ from + spec.line_length (drop from input.now) }
+// Where the first newline of `rest` stands.
+fn newline_at(rest: &[u8]) -> Option<usize>
+    ensures { result ≡ position (λ c. eqb c 10) rest.now }
 {
-    let mut i = from;
-    while i < input.len() {
-        if input[i] == 10 {
-            return i;
-        }
-        i += 1;
-    }
-    i
+    rest.iter().position(|c| *c == b'\n')
 }
 
-// The line of `input` that starts at `from`.
-pub fn next_line(input: &[u8], from: usize) -> Line
+// How many bytes of `rest` stand before its first newline, or before its end.
+#[tactic(auto, using(crate::proofs::Splits::first_newline))]
+fn line_length(rest: &[u8]) -> usize
+    ensures { result ≡ spec.line_length rest.now }
+{
+    newline_at(rest).unwrap_or(rest.len())
+}
+
+// The line of `input` that starts at `from`; none where the input is at its end.
+#[tactic(auto, using(crate::proofs::Splits::line_length_inside))]
+pub fn next_line(input: &[u8], from: usize) -> Option<Line>
     ensures { result ≡ spec.next_line input.now from }
 {
-    if from < input.len() {
-        let stop = line_end(input, from);
-        if stop < input.len() {
-            return Line::Found {
-                stop,
-                next: stop + 1,
-            };
-        }
-        return Line::Found { stop, next: stop };
+    if input.len() <= from {
+        return None;
     }
-    Line::End
+    let stop = from + line_length(&input[from..]);
+    let next = if stop < input.len() { stop + 1 } else { stop };
+    Some(Line { stop, next })
 }

@@ -9,7 +9,7 @@ ghost use Rattle.joins.specs.Front.{Front};
 
 use crate::compare::differ;
 use calculus::network::Network;
-use forms::line::{Line, next_line};
+use forms::line::next_line;
 
 // Whether the network has a line at place k: that of node k + 1 or, behind the 32 nodes, of the route at place k − 32.
 fn has_entry(n: &Network, k: usize) -> bool
@@ -28,8 +28,8 @@ fn line_part<'a>(s: &'a [u8], from: usize, is_there: bool) -> &'a [u8]
 {
     if is_there {
         match next_line(s, from) {
-            Line::Found { stop: _, next } => &s[from..next],
-            Line::End => &s[0..0],
+            Some(line) => &s[from..line.next],
+            None => &s[0..0],
         }
     } else {
         &s[0..0]

@@ -1,13 +1,12 @@
 -- Where a reader stands once its line is read. `rest` cites it. Assumes nothing.
-use Rattle.std.specs.Prelude.{ℕ, List}
-use Rattle.forms.specs.declared.line.Line as line
-use Rattle.forms.specs.declared.line.Line.TheVariants.{Found, End}
+use Rattle.std.specs.Prelude.{ℕ, List, Option, Some, None}
+use Rattle.forms.specs.declared.line.Line.{Line}
 use Rattle.forms.specs.Line.{next_line}
 
 -- behind a line that was found from `at` on; at the end of input still at `at`
-abbrev pub past : ℕ → line.Line → ℕ
-past at (Found stop next) = next
-past at End = at
+abbrev pub past : ℕ → Option Line → ℕ
+past at (Some x) = x.next
+past at None = at
 
 -- behind the line of the input l that starts at `at`
 abbrev pub behind : List ℕ → ℕ → ℕ

@@ -21,7 +21,7 @@ pub fn new<'a>(input: &'a [u8], at: usize) -> Reader<'a>
 }
 
 // The line that starts where the reader stands.
-pub fn line<'a>(r: Reader<'a>) -> Line
+pub fn line<'a>(r: Reader<'a>) -> Option<Line>
     ensures { result ≡ spec.next_line r.entry.input.now r.entry.at }
 {
     next_line(r.input, r.at)
@@ -31,10 +31,7 @@ pub fn line<'a>(r: Reader<'a>) -> Line
 fn behind_line(input: &[u8], at: usize) -> usize
     ensures { result ≡ behind input.now at }
 {
-    match next_line(input, at) {
-        Line::Found { stop, next } => next,
-        Line::End => at,
-    }
+    next_line(input, at).map_or(at, |line| line.next)
 }
 
 // The reader behind that line.
@@ -46,7 +43,7 @@ pub fn rest<'a>(r: Reader<'a>) -> Reader<'a>
 }
 
 // The line of `input` that starts at `at`, which a reader there gives.
-pub fn line_at(input: &[u8], at: usize) -> Line
+pub fn line_at(input: &[u8], at: usize) -> Option<Line>
     ensures { result ≡ spec.next_line input.now at }
 {
     line(new(input, at))

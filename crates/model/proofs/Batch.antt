@@ -2,6 +2,7 @@
 use mathlib.Core.Path.{◌≡◌, refl}
 use mathlib.Core.Bool.{true, false}
 use mathlib.Core.List.{List}
+use Rattle.std.specs.Prelude.{Option, Some, None}
 use Prim.Native.Nat.{ℕ, zero, suc, ◌≤◌}
 use native.Mathlib.Omega.{arith}
 use lib.ListN.{length, length-append}
@@ -10,7 +11,6 @@ use Rattle.calculus.proofs.Tests.{either}
 use Rattle.calculus.specs.declared.state.State.{State}
 use Rattle.forms.specs.Line.{next_line}
 use Rattle.forms.specs.declared.line.Line.{Line}
-use Rattle.forms.specs.declared.line.Line.TheVariants.{Found, End}
 use Rattle.forms.proofs.Splits.{line_inside}
 use Rattle.model.specs.Batch.{Batch, behind, one_more, is_over, answered_lines, answered_text}
 
@@ -35,9 +35,9 @@ Within text b = (b.read ≤ length text) × (b.written ≤ length b.out)
 behind_inside : (text : List ℕ) (from : ℕ) → behind (next_line text from) ≤ length text
 behind_inside text from = go (next_line text from) refl
   where
-    go : (l : Line) → next_line text from ≡ l → behind l ≤ length text
-    go (Found stop next) e = (line_inside text from stop next e).within
-    go End e = omega arith
+    go : (l : Option Line) → next_line text from ≡ l → behind l ≤ length text
+    go (Some x) e = (line_inside text from x e).within
+    go None e = omega arith
 
 more_inside : (text : List ℕ) (b : Batch) → Within text b → Within text (one_more text b (next_line text b.read))
 unfolding one_more

@@ -2,6 +2,7 @@
 use mathlib.Core.Path.{◌≡◌, refl, ap, ◌∙◌}
 use mathlib.Core.Bool.{Bool, true, false, ◌||◌}
 use mathlib.Core.List.{List, [], ◌∷◌, ◌++◌, append_assoc, append-nil}
+use Rattle.std.specs.Prelude.{Some}
 use Prim.Native.Nat.{ℕ, zero, suc, ◌+◌, ◌-◌, ◌≤◌}
 use native.Mathlib.Omega.{arith}
 use borrow.Author.Tests.{ltb-false, le-ltb}
@@ -10,7 +11,7 @@ use lib.Seq.{drop-drop, take-append_seam, drop-append_seam}
 use Rattle.calculus.specs.declared.state.State.{State}
 use Rattle.calculus.proofs.Tests.{Way, is, isnt, way, clash}
 use Rattle.forms.specs.Line.{line_length, next_line, lines}
-use Rattle.forms.specs.declared.line.Line.TheVariants.{Found}
+use Rattle.forms.specs.declared.line.Line.{Line}
 use Rattle.model.specs.Calls.{Reply, answered, lines_of, after, replies}
 use Rattle.model.specs.Batch.{Batch, is_last, line_of, is_over_at, is_over, one_more, answered_lines, answered_text}
 use Rattle.model.specs.Texts.{after_lines, answers_to, NoNewline, AnswersText, Texts}
@@ -39,14 +40,18 @@ pub answered_roomy : (s : State) (line : List ℕ) (size : ℕ) → 65536 ≤ si
 unfolding answered
 answered_roomy s line size h = rw (le-ltb size 65536 h)
 
+-- a line that ends in the newline at `stop`
+abbrev ended_at : ℕ → Line
+ended_at stop = record { stop = stop; next = stop + 1 }
+
 -- the line of a call stands before its newline
-line_before : (text : List ℕ) (from k : ℕ) → line_of text from (Found (from + k) (from + k + 1)) ≡ take k (drop from text)
+line_before : (text : List ℕ) (from k : ℕ) → line_of text from (Some (ended_at (from + k))) ≡ take k (drop from text)
 line_before text from k = let d : from + k - from ≡ k = omega arith in cc
 
 -- one line more: its answers are written behind `done`
 one_more_lem : (text : List ℕ) (s : State) (from k : ℕ) (done left : List ℕ) → 65536 ≤ length left
     → let r = answered s (take k (drop from text)) 65536 in
-    one_more text (at s from done left) (Found (from + k) (from + k + 1)) ≡ at r.state (from + k + 1) (done ++ lines_of r) (drop (length (lines_of r)) left)
+    one_more text (at s from done left) (Some (ended_at (from + k))) ≡ at r.state (from + k + 1) (done ++ lines_of r) (drop (length (lines_of r)) left)
 unfolding one_more
 one_more_lem text s from k done left h =
     rw (take-append_seam done left, drop-append_seam done left, line_before text from k, answered_roomy s (take k (drop from text)) (length left) h, ← append_assoc, length-append)

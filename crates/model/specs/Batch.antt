@@ -1,9 +1,8 @@
 -- A text of several lines, answered one after the other. `simulator::calls::calls` cites `answered_text`. Assumes nothing.
-use Rattle.std.specs.Prelude.{ℕ, zero, suc, ◌+◌, ◌-◌, Bool, true, cond, ◌||◌, List, ◌++◌, eqb, ltb, length, take, drop}
+use Rattle.std.specs.Prelude.{ℕ, zero, suc, ◌+◌, ◌-◌, Bool, true, cond, ◌||◌, List, ◌++◌, Option, Some, None, eqb, ltb, length, take, drop}
 use Rattle.calculus.specs.declared.state.State.{State}
 use Rattle.forms.specs.Line.{next_line}
 use Rattle.forms.specs.declared.line.Line.{Line}
-use Rattle.forms.specs.declared.line.Line.TheVariants.{Found, End}
 use Rattle.model.specs.Calls.{answered, lines_of, output_after}
 
 -- how far a text's calls have come: the state; how many bytes of the text are read; the lent output, and how many of its
@@ -15,24 +14,24 @@ pub record Batch : Type 0 where
   pub written : ℕ
 
 -- the line that is next starts where the text is read, and ends in a newline at `stop`; or none does
-abbrev pub is_last : Line → Bool
-is_last (Found stop next) = eqb stop next
-is_last End = true
+abbrev pub is_last : Option Line → Bool
+is_last (Some x) = eqb x.stop x.next
+is_last None = true
 
-abbrev pub stop_of : Line → ℕ
-stop_of (Found stop next) = stop
-stop_of End = 0
+abbrev pub stop_of : Option Line → ℕ
+stop_of (Some x) = x.stop
+stop_of None = 0
 
-abbrev pub behind : Line → ℕ
-behind (Found stop next) = next
-behind End = 0
+abbrev pub behind : Option Line → ℕ
+behind (Some x) = x.next
+behind None = 0
 
 -- the bytes of that line of `text`, where `from` bytes are read: those before its newline
-abbrev pub line_of : List ℕ → ℕ → Line → List ℕ
+abbrev pub line_of : List ℕ → ℕ → Option Line → List ℕ
 line_of text from l = take (stop_of l - from) (drop from text)
 
 -- that line is one more call, and the rest of the output is lent to it
-unfoldable pub one_more : List ℕ → Batch → Line → Batch
+unfoldable pub one_more : List ℕ → Batch → Option Line → Batch
 one_more text b l =
     let left = drop b.written b.out in
     let r = answered b.state (line_of text b.read l) (length left) in
@@ -51,8 +50,8 @@ abbrev pub is_over : List ℕ → Batch → Bool
 is_over text b = is_over_at text b.read (length b.out - b.written)
 
 -- the line of the next call
-abbrev pub next_call : List ℕ → ℕ → ℕ → Line
-next_call text from room = cond (is_over_at text from room) End (next_line text from)
+abbrev pub next_call : List ℕ → ℕ → ℕ → Option Line
+next_call text from room = cond (is_over_at text from room) None (next_line text from)
 
 -- at most k lines, one after the other: "Each call of the list gets the tables that the call before it left"
 unfoldable pub answered_lines : ℕ → List ℕ → Batch → Batch

@@ -2,6 +2,7 @@
 use mathlib.Core.Path.{◌≡◌}
 use mathlib.Core.Bool.{true, false}
 use mathlib.Core.List.{List}
+use Rattle.std.specs.Prelude.{Option, Some, None}
 use Prim.Native.Nat.{ℕ, ◌+◌}
 use native.Mathlib.Omega.{arith}
 use native.Mathlib.Nat.{zero-add}
@@ -9,7 +10,7 @@ use borrow.Author.Tests.{ltb-false, lt-ltb, le-ltb}
 use lib.Dec.{ltb}
 use lib.ListN.{length, take}
 use Rattle.calculus.proofs.Tests.{Way, is, isnt, way, clash}
-use Rattle.forms.specs.declared.line.Line.TheVariants.{Found, End}
+use Rattle.forms.specs.declared.line.Line.{Line}
 use Rattle.forms.specs.Line.{line_length, line_to, next_line}
 use Rattle.model.specs.Texts.{NoNewline}
 use Rattle.model.specs.Stream.{has_line, too_long, kept}
@@ -17,28 +18,26 @@ use Rattle.model.proofs.Newlines.{line_length_most}
 use Rattle.model.proofs.Unfinished.{take_unfinished}
 
 module _ (l : List ℕ) where
-  pub line_found : (stop next : ℕ) → next_line l 0 ≡ Found stop next → ltb stop next ≡ has_line l
-  line_found stop next q = go (way (ltb 0 (length l))) (way (ltb (line_length l) (length l)))
+  pub line_found : (x : Line) → next_line l 0 ≡ Some x → ltb x.stop x.next ≡ has_line l
+  line_found x q = go (way (ltb 0 (length l))) (way (ltb (line_length l) (length l)))
     where
-      go : Way (ltb 0 (length l)) → Way (ltb (line_length l) (length l)) → ltb stop next ≡ has_line l
-      go (isnt e) w = let z : End ≡ Found stop next = rw e at q in clash cc
+      go : Way (ltb 0 (length l)) → Way (ltb (line_length l) (length l)) → ltb x.stop x.next ≡ has_line l
+      go (isnt e) w = let z : None ≡ Some x = rw e at q in clash cc
       go (is e) (is f) =
-          let z : Found (line_length l) (line_length l + 1) ≡ Found stop next = rw (e, zero-add, f) at q in
-          let a : line_length l ≡ stop = cc in
-          let b : line_length l + 1 ≡ next = cc in
-          rw (f, lt-ltb stop next (omega arith))
+          let z : Some (record { stop = line_length l; next = line_length l + 1 }) ≡ Some x = rw (e, zero-add, f) at q in
+          let a : record { stop = line_length l; next = line_length l + 1 } ≡ x = cc in
+          rw (f, ← a, lt-ltb (line_length l) (line_length l + 1) (omega arith))
       go (is e) (isnt f) =
-          let z : Found (line_length l) (line_length l) ≡ Found stop next = rw (e, zero-add, f) at q in
-          let a : line_length l ≡ stop = cc in
-          let b : line_length l ≡ next = cc in
-          rw (f, le-ltb stop next (omega arith))
+          let z : Some (record { stop = line_length l; next = line_length l }) ≡ Some x = rw (e, zero-add, f) at q in
+          let a : record { stop = line_length l; next = line_length l } ≡ x = cc in
+          rw (f, ← a, le-ltb (line_length l) (line_length l) (omega arith))
 
-  pub line_none : next_line l 0 ≡ End → has_line l ≡ false
+  pub line_none : next_line l 0 ≡ None → has_line l ≡ false
   line_none q = go (way (ltb 0 (length l)))
     where
       go : Way (ltb 0 (length l)) → has_line l ≡ false
       go (isnt e) = le-ltb (line_length l) (length l) (omega (arith, ltb-false 0 (length l) e))
-      go (is e) = let z : line_to l (0 + line_length l) ≡ End = rw e at q in clash cc
+      go (is e) = let z : line_to l (0 + line_length l) ≡ None = rw e at q in clash cc
 
   -- where no line is left, no newline is
   pub no_newline : has_line l ≡ false → NoNewline l

@@ -8,7 +8,6 @@ ghost use Rattle.pieces.specs.Keep.{Keeps};
 ghost use Rattle.pieces.specs.Progress.{started, stream_at, ended, answered_into, advanced, Advances};
 
 use calculus::state::State;
-use forms::line::Line;
 use lines::line_at;
 use simulator::call::call;
 use simulator::calls::calls;
@@ -54,10 +53,7 @@ fn keep(input: &mut [u8], from: usize, to: usize) -> usize
 fn has_line(text: &[u8]) -> bool
     ensures { result ≡ has_line text.now }
 {
-    match line_at(text, 0) {
-        Line::Found { stop, next } => stop < next,
-        Line::End => false,
-    }
+    line_at(text, 0).is_some_and(|line| line.stop < line.next)
 }
 
 // Answers lines of the bytes from `from` up to `to`, as many as the output has room for.

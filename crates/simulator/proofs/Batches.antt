@@ -2,6 +2,7 @@
 use mathlib.Core.Path.{◌≡◌, refl, ◌∙◌}
 use mathlib.Core.Bool.{Bool, true, false, cond, ◌||◌}
 use mathlib.Core.List.{List, append_assoc}
+use Rattle.std.specs.Prelude.{Some, None}
 use Prim.Native.Nat.{ℕ, zero, suc, ◌+◌, ◌-◌, ◌≤◌}
 use native.Mathlib.Omega.{arith}
 use borrow.Author.Tests.{ltb-false}
@@ -13,7 +14,7 @@ use Rattle.calculus.specs.declared.state.Moved.{Moved}
 use Rattle.calculus.specs.declared.state.Part.{Part}
 use Rattle.calculus.specs.declared.state.State.{State}
 use Rattle.calculus.proofs.Tests.{clash, within_bounds}
-use Rattle.forms.specs.declared.line.Line.TheVariants.{Found, End}
+use Rattle.forms.specs.declared.line.Line.{Line}
 use Rattle.forms.specs.declared.read.Reading.{Reading}
 use Rattle.forms.specs.Line.{next_line}
 use Rattle.forms.specs.Read.{read}
@@ -62,22 +63,22 @@ or_true false = refl
 -- the line of the next call: it stands inside the text, and the output has room for its answers
 pub record Next (text : List ℕ) (from room stop next : ℕ) : Type 0 where
   pub goes_on : is_over_at text from room ≡ false
-  pub found : next_line text from ≡ Found stop next
+  pub found : next_line text from ≡ Some (record { stop = stop; next = next })
   pub inside : Inside text from stop next
   pub roomy : 65536 ≤ room
 
-pub next_found : (text : List ℕ) (from room stop next : ℕ) → next_call text from room ≡ Found stop next → Next text from room stop next
-next_found text from room stop next = go (is_over_at text from room) refl
+pub next_found : (text : List ℕ) (from room : ℕ) (x : Line) → next_call text from room ≡ Some x → Next text from room x.stop x.next
+next_found text from room x = go (is_over_at text from room) refl
   where
-    go : (b : Bool) → is_over_at text from room ≡ b → cond b End (next_line text from) ≡ Found stop next → Next text from room stop next
+    go : (b : Bool) → is_over_at text from room ≡ b → cond b None (next_line text from) ≡ Some x → Next text from room x.stop x.next
     go true e q = clash cc
     go false e q =
-        record { goes_on = e; found = q; inside = line_inside text from stop next q; roomy = ltb-false room 65536 (or_false _ _ e) }
+        record { goes_on = e; found = q; inside = line_inside text from x q; roomy = ltb-false room 65536 (or_false _ _ e) }
 
-call_none : (text : List ℕ) (from room : ℕ) → next_call text from room ≡ End → is_over_at text from room ≡ true
+call_none : (text : List ℕ) (from room : ℕ) → next_call text from room ≡ None → is_over_at text from room ≡ true
 call_none text from room = go (is_over_at text from room) refl
   where
-    go : (b : Bool) → is_over_at text from room ≡ b → cond b End (next_line text from) ≡ End → is_over_at text from room ≡ true
+    go : (b : Bool) → is_over_at text from room ≡ b → cond b None (next_line text from) ≡ None → is_over_at text from room ≡ true
     go true e q = e
     go false e q = rw q (or_true (ltb room 65536))
 
@@ -94,7 +95,7 @@ reads_numbered {text} {from} {stop} x = rw x.same (within_bounds 1 8 _ (asked_se
 module _ (s : State) (text out : List ℕ) (from written stop next : ℕ) (r : Reading) where
   one_more_lem : ltb (length out - written) 65536 ≡ false → Reads text from stop r
       → {most : ℕ} {out' : List ℕ} {written' : ℕ} → Puts most out written (lines_of (replied_to s r)) out' written' → written + most ≤ length out
-      → one_more text (reached s out from written) (Found stop next) ≡ reached (replied_to s r).state out' next written'
+      → one_more text (reached s out from written) (Some (record { stop = stop; next = next })) ≡ reached (replied_to s r).state out' next written'
   unfolding one_more answered
   one_more_lem h e p fits =
       let d : length (drop written out) ≡ length out - written = length-drop written out in
@@ -125,7 +126,7 @@ module _ {s : State} {text out₀ out : List ℕ} {parts : List Part} {opened : 
       puts : Puts 65536 out written (lines_of (replied_to w.state r)) out' written'
       puts = rw further.lines (puts_written fits p)
 
-      one : one_more text (reached w.state out from written) (Found stop next) ≡ reached (replied_to w.state r).state out' next written'
+      one : one_more text (reached w.state out from written) (Some (record { stop = stop; next = next })) ≡ reached (replied_to w.state r).state out' next written'
       one = one_more_lem w.state text out from written stop next r (or_false _ _ f.goes_on) reads puts fits
 
       go : (k : ℕ) → answered_text s text out₀ ≡ answered_lines k text (reached w.state out from written) → length text ≤ from + k
@@ -144,7 +145,7 @@ module _ {s : State} {text out₀ out : List ℕ} {parts : List Part} {opened : 
             over = λ e. clash cc;
           }
 
-  pub answering_over : next_call text from (length out - written) ≡ End → Answering s text out₀ out parts opened n users from written false
+  pub answering_over : next_call text from (length out - written) ≡ None → Answering s text out₀ out parts opened n users from written false
   answering_over none =
       record {
         state = w.state;

@@ -21,25 +21,22 @@ pub struct Answered {
     pub written: usize,
 }
 
-fn is_last(l: Line) -> bool
+fn is_last(l: Option<Line>) -> bool
     ensures { result ≡ is_last l }
 {
-    match l {
-        Line::Found { stop, next } => stop == next,
-        Line::End => true,
-    }
+    l.is_none_or(|line| line.stop == line.next)
 }
 
 // The line that is to be answered next; none where no newline follows, or where the output that is left has no room for a call.
-fn next_call(text: &[u8], from: usize, room: usize) -> Line
+fn next_call(text: &[u8], from: usize, room: usize) -> Option<Line>
     ensures { result ≡ next_call text.now from room }
 {
     if room < 65536 {
-        return Line::End;
+        return None;
     }
     let line = line_at(text, from);
     if is_last(line) {
-        return Line::End;
+        return None;
     }
     line
 }
@@ -57,8 +54,8 @@ pub fn calls(s: State, text: &[u8], out: &mut [u8]) -> Answered
     let mut going = true;
     while going {
         match next_call(text, from, out.len() - written) {
-            Line::Found { stop, next } => {
-                let reading = read(&text[from..stop]);
+            Some(line) => {
+                let reading = read(&text[from..line.stop]);
                 let parsed = reading.parsed;
                 let session = session_of(parsed);
                 let at = session.0 as usize - 1;
@@ -70,9 +67,9 @@ pub fn calls(s: State, text: &[u8], out: &mut [u8]) -> Answered
                 opened = is_opened(moved.opens, opened);
                 written = write_lines(out, written, &network, &users, parsed, answer);
                 network_after(&mut network, reading, answer);
-                from = next;
+                from = line.next;
             }
-            Line::End => {
+            None => {
                 going = false;
             }
         }

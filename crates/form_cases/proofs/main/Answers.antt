@@ -4,4 +4,4 @@ use Rattle.forms.proofs.Splits.{line_inside}
 use Rattle.form_cases.proofs.main.Goals as goal
 
 pub slice_bounds-put_line-end : goal.slice_bounds-put_line-end
-slice_bounds-put_line-end c = omega (arith, line_inside _ _ _ _ (join c.next_line.ensures c.in-Found.is))
+slice_bounds-put_line-end c = omega (arith, line_inside _ _ _ (join c.next_line.ensures c.in-Some.is))

@@ -5,4 +5,4 @@ use Rattle.calculus.proofs.Tests.{join}
 use Rattle.joins.proofs.merge.line_part.Goals as goal
 
 pub slice_bounds-result-end : goal.slice_bounds-result-end
-slice_bounds-result-end c = let inside = line_inside _ _ _ _ (join c.next_line.ensures c.in-Found.is) in omega (arith, inside)
+slice_bounds-result-end c = let inside = line_inside _ _ _ (join c.next_line.ensures c.in-Some.is) in omega (arith, inside)
