@@ -67,7 +67,7 @@ pub struct SessionNumber(pub u8);
 pub struct ItemNumber(pub u32);
 
 // A security parameters index. 0 to 255 are reserved.
-#[derive(Clone, Copy)]
+#[derive(Clone, Copy, PartialEq, Eq)]
 pub struct Spi(pub u16);
 
 impl Spi {

@@ -5,7 +5,7 @@ use crate::number::{ItemNumber, Spi};
 pub const HOP_LIMIT: u8 = 32;
 
 // What a packet carries. `Req` and `Rep` name an establishment, `Disc` the last tunnel point, `Data` a tag.
-#[derive(Clone, Copy)]
+#[derive(Clone, Copy, PartialEq, Eq)]
 pub enum Payload {
     Req(u8),
     Rep(u8),
@@ -14,8 +14,8 @@ pub enum Payload {
     Data(u32),
 }
 
-// The header of a tunnel: its two ends, its SPI and its own hop count, the outer one. `to` 0 is no header.
-#[derive(Clone, Copy)]
+// The header of a tunnel: its two ends, its SPI and its own hop count, the outer one.
+#[derive(Clone, Copy, PartialEq, Eq)]
 pub struct Header {
     pub from: u8,
     pub to: u8,
@@ -24,17 +24,17 @@ pub struct Header {
 }
 
 // A packet, with at most one header. `hops` is its own count, the inner one.
-#[derive(Clone, Copy)]
+#[derive(Clone, Copy, PartialEq, Eq)]
 pub struct Packet {
     pub source: u8,
     pub destination: u8,
     pub payload: Payload,
     pub hops: u8,
-    pub header: Header,
+    pub header: Option<Header>,
 }
 
 // The two sides of an establishment.
-#[derive(Clone, Copy)]
+#[derive(Clone, Copy, PartialEq, Eq)]
 pub enum Side {
     Responder,
     Initiator,

@@ -23,7 +23,7 @@ pub struct Session {
 }
 
 // Document 01's peer of a row, or q of a header: a node, or 0 for none. With request #110 there are up to four.
-#[derive(Clone, Copy)]
+#[derive(Clone, Copy, PartialEq, Eq)]
 pub struct Peers {
     pub first: u8,
 }

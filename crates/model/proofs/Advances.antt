@@ -1,10 +1,11 @@
 -- Every rule leads from one place of a set-up to another, a step nearer to the end. Assumes nothing.
-use mathlib.Core.Path.{◌≡◌, refl, sym, subst, ◌∙◌}
+use mathlib.Core.Path.{◌≡◌, refl, sym, ap, subst, ◌∙◌}
 use mathlib.Core.Bool.{true, false, not, ◌||◌}
 use Prim.Native.Nat.{ℕ, ◌+◌, ◌-◌, ◌*◌, ◌≤◌, ◌<◌}
 use native.Mathlib.Omega.{arith}
 use lib.Dec.{eqb}
 use borrow.Author.Tests.{eqb-true, eqb-false, eq-eqb, ne_eqb, not-false, not-true}
+use Rattle.std.specs.Prelude.{Option, Some, None}
 use Rattle.calculus.proofs.Tests.{both, never, either}
 use Rattle.calculus.specs.declared.answer.Loss.{Loss}
 use Rattle.calculus.specs.declared.effect.Effect.{Effect}
@@ -17,26 +18,33 @@ use Rattle.calculus.specs.declared.packet.Header.{Header}
 use Rattle.calculus.specs.declared.packet.Packet.{Packet}
 use Rattle.calculus.specs.declared.packet.Item.{Item}
 use Rattle.calculus.specs.declared.packet.Item.TheVariants.{Wire, Out, Est}
+use Rattle.calculus.specs.declared.session.Peers.{Peers}
 use Rattle.calculus.specs.declared.state.Part.{Part}
 use Rattle.model.specs.Lists.{All}
 use Rattle.model.specs.Network.{is_gateway, next_hop, has_all_needed}
-use Rattle.model.specs.Packet.{hop_limit, bare, under, target, no_hops_left, fewer}
+use Rattle.model.specs.Packet.{hop_limit, bare, under, target, no_hops_left, shorter, fewer}
 use Rattle.model.specs.Row.{held, newest, admits, are_nodes}
-use Rattle.model.specs.Rules.{lost, writes, is_exhausted, begin, discovers, unprotected, onward, wire_rule, sent, created, out_rule, stripped, admitted, matched, received, up_rule, est_rule, auth_rule, grant_rule, acknowledged, ack_rule, rule}
+use Rattle.model.specs.Rules.{lost, writes, is_exhausted, begin, discovers, unprotected, onward, wire_rule, sent, header_to, created, out_rule, same_peers, admitted, matched, received, up_rule, est_rule, auth_rule, grant_rule, acknowledged, ack_rule, rule}
 use Rattle.model.specs.State.{begun_after, added_rows}
 use Rattle.model.specs.Termination.{trip_steps, ceiling, is_active}
 use Rattle.model.proofs.Discovers.{server_discovers, not_exhausted}
+use Rattle.model.proofs.Match.{OfPeers}
 use Rattle.model.proofs.Named.{Written}
 use Rattle.model.proofs.Places.{node_bounds}
 use Rattle.model.proofs.Trips.{bare_with, Trip, at_source, on_wire, Travels, gone, further, moves, comes, travels, trip_some}
 use Rattle.model.proofs.Underway.{Leaves, Ends, Discovering, Begun, Returning, Underway, discovering, establishing, requesting, responder_auth, responder_grant, replying, initiator_auth, initiator_grant, acknowledging, done_out, done_on_wire, done_up, done_bare}
-use Rattle.model.proofs.Points.{next_node, points, walk_found, walk_on, points_next, after_client, between_next, met_once, Chained, responder_out, responder_in, initiator_out, initiator_in, never_tunnelled, passed}
+use Rattle.model.proofs.Points.{Through, next_node, points, walk_found, walk_on, points_next, after_client, between_next, met_once, Chained, responder_out, responder_in, initiator_out, initiator_in, never_tunnelled, passed}
 
 -- it is counted, the item written is under way again, and the rows added are of the chain
 pub record Next (net : Network) (c d b n : ℕ) (f : Effect) : Type 0 where
   pub counted : n + 1 ≤ ceiling
   pub written : Written (λ i. is_active i ≡ true → Underway net c d (begun_after b f.begins) (n + 1) i) f.outcome
   pub added : All (Chained net c d (begun_after b f.begins)) (added_rows f.added)
+
+-- what matches one peer is that peer
+same_some : (x : Option Peers) (q : ℕ) → same_peers x (Some (record { first = q })) ≡ true → x ≡ Some (record { first = q })
+same_some None q e = never e
+same_some (Some x) q e = ap (λ (n : ℕ). Some (record { first = n })) (eqb-true x.first q e)
 
 -- what stands is told by the nodes, as `local` of Local has it
 module _ (net : Network) (t : Part) (n : ℕ) where
@@ -141,17 +149,18 @@ module _ (net : Network) (t : Part) (n : ℕ) where
     -- through the matching tunnel, or bare
     done_sent : (m x k : ℕ) → m ≤ hop_limit → Returning net c d b x k → trip_steps * k + n ≤ ceiling → After (sent (held t) x (bare_with d c Done m))
     done_sent m x k o w l =
-        let p = bare_with d c Done m in
-        either (λ (h : Header). After (writes (Wire x (under p h)))) (eqb (newest (held t) true x p).first 0)
-        (λ e. wrote (omega (arith, w.least)) (done_bare (on_wire x m) (omega arith) (omega (arith, w.least))))
-        (λ e. wrote (omega (arith, w.least)) (done_on_wire m k _ x o e w (omega (arith, w.least))))
+        go (newest (held t) true x (bare_with d c Done m))
+      where
+        go : (q : Option Peers) → After (writes (Wire x (under (bare_with d c Done m) (header_to x q))))
+        go None = wrote (omega (arith, w.least)) (done_bare (on_wire x m) (omega arith) (omega (arith, w.least)))
+        go (Some q) = wrote (omega (arith, w.least)) (done_on_wire m k _ x o w (omega (arith, w.least)))
 
     -- out of the tunnel from x, and on from y, which is the point before
-    done_through : (m x k y : ℕ) → m ≤ hop_limit → Returning net c d b x k → trip_steps * (k - 1) + 1 + n ≤ ceiling → are_nodes y x ≡ true
-        → (newest (held t) false y (bare d c Done)).first ≡ x → (c ≡ y → ⊥) → After (writes (Out y (bare_with d c Done m)))
-    done_through m x k y o w l g e f =
-        let v = passed net c d b ends.apart y (held t) rows (λ z. absurd (omega (arith, node_bounds y x g, e, z))) in
-        let same : k ≡ v.number = met_once net c d b w.between w.server k v.number (sym w.here ∙ sym e ∙ v.far) w.most v.few in
+    done_through : (m x k y : ℕ) → m ≤ hop_limit → Returning net c d b x k → trip_steps * (k - 1) + 1 + n ≤ ceiling
+        → newest (held t) false y (bare d c Done) ≡ Some (record { first = x }) → (c ≡ y → ⊥) → After (writes (Out y (bare_with d c Done m)))
+    done_through m x k y o w l e f =
+        let v : Through net c d b y x = subst (OfPeers false y (bare d c Done) (Through net c d b y)) e (passed net c d b ends.apart y (held t) rows) in
+        let same : k ≡ v.number = met_once net c d b w.between w.server k v.number (sym w.here ∙ v.far) w.most v.few in
         let on : 1 ≤ v.place = after_client net c d v.place (λ z. f (sym (v.near ∙ z))) in
         wrote (omega arith)
         (done_out m y v.place o
@@ -215,27 +224,22 @@ module _ (net : Network) (t : Part) (n : ℕ) where
         let p = bare_with d c Done m in
         either After (created x p) (λ e. done_sent m x k o w l)
         (λ e. either After (no_hops_left p) (λ z. loses (omega (arith, w.least))) (λ z. done_sent (m - 1) x k (omega arith) w l))
-    advances i (done_on_wire m k h y o u w l) =
-        let p = under (bare_with d c Done m) h in
+    advances i (done_on_wire m k h y o w l) =
+        let p = under (bare_with d c Done m) (Some h) in
         let few : n + 1 ≤ ceiling = omega arith in
-        let inner : (fewer p).hops ≤ hop_limit = rw u (omega arith) in
-        let outer : (fewer p).header.hops ≡ h.hops - 1 = rw u in
-        either After (eqb y (target p)) (λ e. wrote few (done_up m k h y o u w (omega arith)))
+        either After (eqb y (target p)) (λ e. wrote few (done_up m k h y o w (omega arith)))
         (λ e. either After (unprotected (is_gateway net y) p) (λ o. loses few)
         (λ e. either After (no_hops_left p) (λ z. loses few)
         (λ z. moved_on (next_hop net y (target p)) (fewer p) few
-        (done_on_wire (fewer p).hops k (fewer p).header _ inner u w (omega (arith, outer, eqb-false h.hops 0 (rw u at z)))))))
-    advances i (done_up m k h y o u w l) =
+        (done_on_wire m k (shorter h) _ o w (omega (arith, eqb-false h.hops 0 z))))))
+    advances i (done_up m k h y o w l) =
         let few : n + 1 ≤ ceiling = omega arith in
-        let p = under (bare_with d c Done m) h in
-        let x = h.from in
-        let admit = admitted are_nodes (held t) y p.header in
+        let p = under (bare_with d c Done m) (Some h) in
         let match = matched (held t) y p in
-        let from : (stripped h).first ≡ x = rw u in
-        either After (not admit) (λ e. loses few)
+        either After (not (admitted are_nodes (held t) y p.header)) (λ e. loses few)
         (λ e. either After (not match) (λ g. loses few)
         (λ g. either After (not (eqb c y))
-        (λ f. done_through _ x k y (omega arith) w l (both (are_nodes y x) (admits (held t) y x) (rw u at (not-false admit e))).0 (eqb-true _ _ (not-false match g) ∙ from)
+        (λ f. done_through m h.from k y o w l (same_some _ h.from (not-false match g))
         (eqb-false c y (not-true (eqb c y) f)))
         (λ f. record { counted = few; written = tt; added = tt })))
     advances i (done_bare v l m) =

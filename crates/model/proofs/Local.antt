@@ -7,6 +7,7 @@ use Prim.Native.Nat.{ℕ}
 use native.Mathlib.Omega.{arith}
 use lib.Dec.{ltb}
 use borrow.Author.Tests.{lt-ltb, eqb-true}
+use Rattle.std.specs.Prelude as prelude
 use Rattle.calculus.proofs.Tests.{never}
 use Rattle.calculus.specs.declared.answer.Answer.TheVariants.{No}
 use Rattle.calculus.specs.declared.answer.Refusal.{Refusal}
@@ -25,7 +26,6 @@ use Rattle.forms.specs.declared.read.Reading.{Reading}
 use Rattle.forms.specs.Text.{Form}
 use Rattle.forms.specs.Read.{read}
 use Rattle.forms.specs.Request.{in_range, asked}
-use Rattle.model.specs.Packet.{is_bare}
 use Rattle.model.specs.Row.{held, admits, are_nodes, users_of, stands}
 use Rattle.model.specs.Rules.{admitted, up_rule, rule}
 use Rattle.model.specs.State.{load}
@@ -49,10 +49,9 @@ and_same false false b h = refl
 
 -- where an in row of this part tells that its association stands, no rule reads what stands
 module _ (n : Network) (standing : ℕ → ℕ → Bool) (t : Part) (h : (a q : ℕ) → admits (held t) a q ≡ true → standing a q ≡ are_nodes a q) where
-  admitted_same : (a : ℕ) (x : Header) → admitted standing (held t) a x ≡ admitted are_nodes (held t) a x
-  admitted_same a x =
-      let q = x.from in
-      ap (λ (y : Bool). is_bare x || y) (and_same (standing a q) (are_nodes a q) (admits (held t) a q) (h a q))
+  admitted_same : (a : ℕ) (x : prelude.Option Header) → admitted standing (held t) a x ≡ admitted are_nodes (held t) a x
+  admitted_same a prelude.None = refl
+  admitted_same a (prelude.Some x) = let q = x.from in and_same (standing a q) (are_nodes a q) (admits (held t) a q) (h a q)
 
   rule_same : (i : Item) → rule n standing t i ≡ rule n are_nodes t i
   unfolding rule up_rule

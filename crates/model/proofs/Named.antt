@@ -7,6 +7,7 @@ use Prim.Native.Nat.{ℕ, ◌≤◌}
 use native.Mathlib.Omega.{arith}
 use lib.Dec.{eqb}
 use borrow.Author.Tests.{eqb-true, eqb-false}
+use Rattle.std.specs.Prelude.{Option, Some, None, is_none, option_map, unwrap_or}
 use Rattle.calculus.proofs.Tests.{never, either}
 use Rattle.calculus.specs.declared.effect.Outcome.{Outcome}
 use Rattle.calculus.specs.declared.effect.Outcome.TheVariants.{Wrote, WroteByDefault, WroteTwo, Lost, Denied, Opened, Delivered}
@@ -27,11 +28,11 @@ use Rattle.calculus.specs.declared.session.Row.{Row}
 use Rattle.calculus.specs.declared.session.Session.{Session}
 use Rattle.calculus.specs.declared.state.Part.{Part}
 use Rattle.model.specs.Network.{is_gateway, next_hop, has_all_needed}
-use Rattle.model.specs.Packet.{hop_limit, is_bare, bare, target, no_hops_left, fewer}
+use Rattle.model.specs.Packet.{hop_limit, bare, target, no_hops_left, shorter, fewer}
 use Rattle.model.specs.Row.{held, newest, are_nodes}
 use Rattle.model.specs.Rules.{discovers, last_point, is_exhausted, unprotected, onward, wire_rule, header_to, sent, created, out_rule, admitted, matched, received, up_rule, est_rule, auth_rule, grant_rule, ack_rule, rule}
 use Rattle.model.specs.State.{added_rows}
-use Rattle.model.specs.SetUp.{is_disc, FewHops, LeadsToGiven}
+use Rattle.model.specs.SetUp.{is_disc, FewOuter, FewHops, LeadsToGiven}
 use Rattle.model.specs.Lists.{All}
 use Rattle.model.specs.GivenBack.{Consistent}
 use Rattle.model.proofs.Places.{are_nodes_lem}
@@ -44,8 +45,8 @@ abbrev PacketNamed : Packet → Type 0
 PacketNamed p = Node p.source × Node p.destination × FewHops p
 
 -- on a wire a Disc is bare, goes to the server, and its last point is a node before that
-abbrev DiscNamed : ℕ → Payload → ℕ → Header → Type 0
-DiscNamed v y d h = is_disc y ≡ true → Node (last_point y) × (last_point y ≡ v → ⊥) × (d ≡ v) × (is_bare h ≡ true)
+abbrev DiscNamed : ℕ → Payload → ℕ → Option Header → Type 0
+DiscNamed v y d h = is_disc y ≡ true → Node (last_point y) × (last_point y ≡ v → ⊥) × (d ≡ v) × (is_none h ≡ true)
 
 abbrev NoDisc : Payload → Type 0
 NoDisc y = is_disc y ≡ false
@@ -53,7 +54,7 @@ NoDisc y = is_disc y ≡ false
 abbrev pub Named : ℕ → Item → Type 0
 Named v Free = Unit
 Named v (Wire a p) = Node a × PacketNamed p × DiscNamed v p.payload p.destination p.header
-Named v (Out a p) = Node a × PacketNamed p × NoDisc p.payload × (is_bare p.header ≡ true)
+Named v (Out a p) = Node a × PacketNamed p × NoDisc p.payload × (is_none p.header ≡ true)
 Named v (Up a p) = Node a × PacketNamed p × NoDisc p.payload
 Named v (Est a b e) = Node a × Node b
 Named v (Auth a q e side) = Node a × Node q
@@ -81,24 +82,31 @@ EffectNamed v f = Written (Named v) f.outcome × All RowNamed (added_rows f.adde
 -- ---- the rules
 
 -- no Disc reaches up: at the server it is discovered
-arrives : (v : ℕ) (gateway : Bool) (a : ℕ) (y : Payload) (d : ℕ) (h : Header) → discovers gateway v a y ≡ false → DiscNamed v y d h
-    → a ≡ cond (is_bare h) d h.to → NoDisc y
+arrives : (v : ℕ) (gateway : Bool) (a : ℕ) (y : Payload) (d : ℕ) (h : Option Header) → discovers gateway v a y ≡ false → DiscNamed v y d h
+    → a ≡ unwrap_or (option_map (λ x. x.to) h) d → NoDisc y
 arrives v gateway a (Req e) d h k o t = refl
 arrives v gateway a (Rep e) d h k o t = refl
-arrives v gateway a (Disc p) d h k o t =
+arrives v gateway a (Disc p) d (Some h) k o t = never (o refl).3
+arrives v gateway a (Disc p) d None k o t =
     let x = o refl in
-    let b : cond (is_bare h) d h.to ≡ d = rw x.3 in
-    let e : a ≡ v = t ∙ b ∙ x.2 in
+    let e : a ≡ v = t ∙ x.2 in
     sym (server_discovers gateway v a p (λ w. x.1 (sym w ∙ e)) e) ∙ k
 arrives v gateway a Done d h k o t = refl
 arrives v gateway a (Data tag) d h k o t = refl
 
+few_outer : (h : Option Header) → FewOuter h → FewOuter (option_map shorter h)
+few_outer None o = tt
+few_outer (Some h) o = omega (arith, o)
+
 fewer_named : (p : Packet) → PacketNamed p → PacketNamed (fewer p)
 fewer_named p o =
-    let few : (n m : ℕ) → n ≤ hop_limit → m ≤ hop_limit → cond (is_bare p.header) n m ≤ hop_limit =
-    λ n m h k. either (λ (x : ℕ). x ≤ hop_limit) (is_bare p.header) (λ e. h) (λ e. k) in
-    let h = o.2 in
-    (o.0, o.1, (few _ _ (omega (arith, h)) (omega (arith, h)), few _ _ (omega (arith, h)) (omega (arith, h))))
+    let few = o.2.0 in
+    (o.0, o.1, (either (λ (x : ℕ). x ≤ hop_limit) (is_none p.header) (λ e. omega (arith, few)) (λ e. few), few_outer p.header o.2.1))
+
+-- a packet under no header is bare after a hop too
+fewer_bare : (h : Option Header) → is_none h ≡ true → is_none (option_map shorter h) ≡ true
+fewer_bare None e = refl
+fewer_bare (Some h) e = never e
 
 onward_named : (n : Network) (v : ℕ) (next : NextHop) (a : ℕ) (p : Packet) → LeadsToGiven n next → Named v (Wire a p)
     → EffectNamed v (onward next p)
@@ -119,13 +127,14 @@ wire_named n s a p k o =
     (λ e. either P (eqb a (target p))
     (λ w. ((o.0, o.1, arrives v gateway a p.payload p.destination p.header e o.2 (eqb-true a (target p) w)), tt))
     (λ e. either P (unprotected gateway p) (λ e. (tt, tt))
-    (λ e. either P (no_hops_left p) (λ e. (tt, tt)) (λ e. onward_named n v (next_hop n a (target p)) a (fewer p) k (o.0, fewer_named p o.1, o.2)))))
+    (λ e. either P (no_hops_left p) (λ e. (tt, tt)) (λ e. onward_named n v (next_hop n a (target p)) a (fewer p) k (o.0, fewer_named p o.1, λ w. let x = o.2 w in (x.0, x.1, x.2, fewer_bare p.header x.3))))))
 
-header_few : (a : ℕ) (x : Peers) → (header_to a x).hops ≤ hop_limit
-header_few a x = either (λ (h : Header). h.hops ≤ hop_limit) (eqb x.first 0) (λ e. omega arith) (λ e. omega arith)
+header_few : (a : ℕ) (x : Option Peers) → FewOuter (header_to a x)
+header_few a None = tt
+header_few a (Some x) = omega arith
 
 sent_named : (v : ℕ) (rows : List Row) (a : ℕ) (p : Packet) → Node a → PacketNamed p → NoDisc p.payload → EffectNamed v (sent rows a p)
-sent_named v rows a p h k d = ((h, (k.0, k.1, (omega (arith, k.2), header_few a (newest rows true a p))), λ e. never (sym d ∙ e)), tt)
+sent_named v rows a p h k d = ((h, (k.0, k.1, (k.2.0, header_few a (newest rows true a p))), λ e. never (sym d ∙ e)), tt)
 
 out_named : (v : ℕ) (rows : List Row) (a : ℕ) (p : Packet) → Named v (Out a p) → EffectNamed v (out_rule rows a p)
 unfolding out_rule
@@ -147,12 +156,12 @@ up_named v standing rows a p o =
     let P = EffectNamed v in
     either P (not (admitted standing rows a p.header)) (λ e. (tt, tt))
     (λ e. either P (not (matched rows a p)) (λ e. (tt, tt))
-    (λ e. either P (not (eqb p.destination a)) (λ e. ((o.0, (o.1.0, o.1.1, (omega (arith, o.1.2), omega arith)), o.2, refl), tt))
+    (λ e. either P (not (eqb p.destination a)) (λ e. ((o.0, (o.1.0, o.1.1, (o.1.2.0, tt)), o.2, refl), tt))
     (λ e. received_named v a p.source p.payload o.0 o.1.0)))
 
 -- a new packet
 pub bare_named : (a b : ℕ) (y : Payload) → Node a → Node b → PacketNamed (bare a b y)
-bare_named a b y h k = (h, k, (omega arith, omega arith))
+bare_named a b y h k = (h, k, (omega arith, tt))
 
 grant_named : (v : ℕ) (s : Session) (a q e : ℕ) (side : Side) → Node a → Node q → EffectNamed v (grant_rule s a q e side)
 unfolding grant_rule
@@ -163,7 +172,7 @@ ack_named : (s : Session) (a : ℕ) → Node s.client → Node s.server → Node
 unfolding ack_rule
 ack_named s a c d h = (
   either (Named s.server) (eqb a s.server) (λ e. (h, bare_named s.server s.client Done d c, refl, refl))
-      (λ e. (h, (c, d, (omega arith, omega arith)), λ k. (h, eqb-false a s.server e, refl, refl))),
+      (λ e. (h, (c, d, (omega arith, tt)), λ k. (h, eqb-false a s.server e, refl, refl))),
   tt,
 )
 

@@ -7,6 +7,7 @@ use Prim.Native.Nat.{ℕ, zero, suc, ◌+◌, ◌-◌, ◌≤◌, ◌<◌}
 use native.Mathlib.Omega.{arith}
 use native.Mathlib.Decide.{dec_lt}
 use borrow.Author.Tests.{eqb-true, eq-eqb, ne_eqb}
+use Rattle.std.specs.Prelude.{None}
 use Rattle.calculus.proofs.Tests.{never}
 use Rattle.calculus.specs.declared.network.Network.{Network}
 use Rattle.calculus.specs.declared.network.NextHop.{NextHop}
@@ -17,10 +18,10 @@ use Rattle.calculus.specs.declared.session.Row.{Row}
 use Rattle.model.specs.Lists.{All}
 use Rattle.model.specs.Network.{is_gateway, next_hop}
 use Rattle.model.specs.Packet.{hop_limit, bare, concerns}
-use Rattle.model.specs.Row.{no_peers, out_row, in_row, fits, newest}
+use Rattle.model.specs.Row.{out_row, in_row, fits, newest}
 use Rattle.model.specs.Rules.{discovers}
 use Rattle.model.proofs.Lists.{all_map}
-use Rattle.model.proofs.Match.{of_newest, none_newest}
+use Rattle.model.proofs.Match.{OfPeers, of_newest, none_newest}
 
 -- ---- the points
 
@@ -143,7 +144,7 @@ module _ (net : Network) (c d b : ℕ) where
     -- neither Req nor Rep of establishment b goes through a tunnel
     pub never_tunnelled : (i : ℕ) → b ≡ i + 1 → Between net c d b → concerns p.payload b ≡ true
         → ((points net c d i ≡ c → ⊥) → (p.source ≡ c → ⊥) × (p.destination ≡ c → ⊥)) → (rows : List Row) → All row rows
-        → newest rows true x p ≡ no_peers
+        → newest rows true x p ≡ None
     never_tunnelled zero o h k f rows rs =
         none_newest true x p rows (all_map row _ (first_skipped (omega arith) k) rows rs)
     never_tunnelled (suc i) o h k f rows rs =
@@ -166,5 +167,5 @@ module _ (net : Network) (c d b : ℕ) where
     passed_row r (initiator_out i e w m) f = never f
     passed_row r (initiator_in i e w m) f = never (sym (simp (ne_eqb c d apart, and-false)) ∙ f)
 
-    pub passed : (rows : List Row) → All row rows → ((newest rows false y (bare d c Done)).first ≡ 0 → ⊥) → Through y (newest rows false y (bare d c Done)).first
+    pub passed : (rows : List Row) → All row rows → OfPeers false y (bare d c Done) (Through y) (newest rows false y (bare d c Done))
     passed rows rs = of_newest false y (bare d c Done) (Through y) rows (all_map row _ passed_row rows rs)

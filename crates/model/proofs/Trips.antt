@@ -5,6 +5,7 @@ use Prim.Native.Nat.{ℕ, ◌+◌, ◌≤◌, ◌<◌}
 use native.Mathlib.Omega.{arith}
 use lib.Dec.{eqb}
 use borrow.Author.Tests.{eqb-true, eqb-false, eq-eqb}
+use Rattle.std.specs.Prelude.{None}
 use Rattle.calculus.proofs.Tests.{never, either}
 use Rattle.calculus.specs.declared.answer.Loss.{Loss}
 use Rattle.calculus.specs.declared.effect.Effect.{Effect}
@@ -16,14 +17,14 @@ use Rattle.calculus.specs.declared.packet.Item.{Item}
 use Rattle.calculus.specs.declared.packet.Item.TheVariants.{Wire, Out, Up}
 use Rattle.calculus.specs.declared.state.Part.{Part}
 use Rattle.model.specs.Network.{is_gateway, next_hop}
-use Rattle.model.specs.Packet.{no_header, bare, no_hops_left, fewer}
-use Rattle.model.specs.Row.{no_peers, held, newest, are_nodes}
+use Rattle.model.specs.Packet.{bare, no_hops_left, fewer}
+use Rattle.model.specs.Row.{held, newest, are_nodes}
 use Rattle.model.specs.Rules.{lost, writes, discovers, unprotected, onward, wire_rule, created, out_rule, matched, received, up_rule, rule}
 use Rattle.model.specs.Termination.{trip_steps}
 
 -- a bare packet with h hops left
 abbrev pub bare_with : ℕ → ℕ → Payload → ℕ → Packet
-bare_with a b y h = record { source = a; destination = b; payload = y; hops = h; header = no_header }
+bare_with a b y h = record { source = a; destination = b; payload = y; hops = h; header = None }
 
 -- where a packet from x to z can stand, and how many steps can follow until it is received
 pub data Trip (x z : ℕ) (y : Payload) : ℕ → Item → Type 0 where
@@ -46,7 +47,7 @@ pub data Travels (x z : ℕ) (y : Payload) (j : ℕ) : Effect → Type 0 where
 module _ (n : Network) (t : Part) (x z : ℕ) (y : Payload)
     (quiet : (g : Bool) (v a : ℕ) → discovers g v a y ≡ false) where
   -- where it is still to be sent, it is sent bare
-  pub travels : {j : ℕ} {i : Item} → (trip_steps ≤ j → newest (held t) true x (bare x z y) ≡ no_peers) → Trip x z y j i
+  pub travels : {j : ℕ} {i : Item} → (trip_steps ≤ j → newest (held t) true x (bare x z y) ≡ None) → Trip x z y j i
       → Travels x z y j (rule n are_nodes t i)
   unfolding rule out_rule wire_rule up_rule
   travels none at_source =

@@ -3,6 +3,7 @@
 use mathlib.Core.Path.{◌≡◌}
 use mathlib.Core.Bool.{false}
 use Prim.Native.Nat.{ℕ, ◌+◌, ◌-◌, ◌*◌, ◌≤◌, ◌<◌}
+use Rattle.std.specs.Prelude.{Some}
 use Rattle.calculus.specs.declared.network.Network.{Network}
 use Rattle.calculus.specs.declared.packet.Payload.TheVariants.{Req, Rep, Disc, Done}
 use Rattle.calculus.specs.declared.packet.Header.{Header}
@@ -10,7 +11,7 @@ use Rattle.calculus.specs.declared.packet.Side.TheVariants.{Responder, Initiator
 use Rattle.calculus.specs.declared.packet.Item.{Item}
 use Rattle.calculus.specs.declared.packet.Item.TheVariants.{Wire, Out, Up, Est, Auth, Grant, Ack}
 use Rattle.model.specs.Network.{is_gateway}
-use Rattle.model.specs.Packet.{hop_limit, is_bare, under}
+use Rattle.model.specs.Packet.{hop_limit, under}
 use Rattle.model.specs.Rules.{establishment_limit}
 use Rattle.model.specs.Termination.{trip_steps, establishment_steps, ceiling}
 use Rattle.model.proofs.Trips.{bare_with, Trip}
@@ -65,9 +66,9 @@ module _ (net : Network) (c d : ℕ) where
     acknowledging : (i : ℕ) → Begun b i → Leaves b n 1 → Underway b n (Ack (point b) b)
     -- a Done with the inner count m, at x, point k, or in the tunnel out of there: a way for each tunnel from there to the client
     done_out : (m x k : ℕ) → m ≤ hop_limit → Returning b x k → trip_steps * k + n ≤ ceiling → Underway b n (Out x (bare_with d c Done m))
-    done_on_wire : (m k : ℕ) (h : Header) (y : ℕ) → m ≤ hop_limit → is_bare h ≡ false → Returning b h.from k
-        → trip_steps * (k - 1) + (h.hops + 2) + n ≤ ceiling → Underway b n (Wire y (under (bare_with d c Done m) h))
-    done_up : (m k : ℕ) (h : Header) (y : ℕ) → m ≤ hop_limit → is_bare h ≡ false → Returning b h.from k
-        → trip_steps * (k - 1) + 1 + n ≤ ceiling → Underway b n (Up y (under (bare_with d c Done m) h))
+    done_on_wire : (m k : ℕ) (h : Header) (y : ℕ) → m ≤ hop_limit → Returning b h.from k
+        → trip_steps * (k - 1) + (h.hops + 2) + n ≤ ceiling → Underway b n (Wire y (under (bare_with d c Done m) (Some h)))
+    done_up : (m k : ℕ) (h : Header) (y : ℕ) → m ≤ hop_limit → Returning b h.from k
+        → trip_steps * (k - 1) + 1 + n ≤ ceiling → Underway b n (Up y (under (bare_with d c Done m) (Some h)))
     -- with no tunnel out of a point it is on its last way
     done_bare : {j : ℕ} {x : Item} → Trip d c Done j x → j < trip_steps → j + n ≤ ceiling → Underway b n x

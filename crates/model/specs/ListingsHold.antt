@@ -1,6 +1,6 @@
 -- The listings hold: what each call writes, what session 1 holds at some moments of them, and how many of its steps are counted. Proved
 -- in proofs/Listings. Assumes nothing.
-use Rattle.std.specs.Prelude.{ℕ, ◌≡◌, Bool, true, false, cond, ◌&&◌, ◌||◌, List, [], ◌∷◌, map, ltb, eqb, take, replicate}
+use Rattle.std.specs.Prelude.{ℕ, ◌≡◌, Bool, true, false, cond, ◌&&◌, ◌||◌, List, [], ◌∷◌, map, ltb, eqb, take, replicate, Option, Some, None}
 use Rattle.std.proofs.Math.Option.{some}
 use Rattle.calculus.specs.declared.packet.Header.{Header}
 use Rattle.calculus.specs.declared.packet.Item.{Item}
@@ -87,14 +87,14 @@ seen_behind l = view (after fresh (map call_of l)) 1
 abbrev pub item : ℕ → Item → Slot
 item k i = record { number = record { 0 = k }; item = i }
 
-abbrev pub packet : ℕ → ℕ → Payload → ℕ → Header → Packet
+abbrev pub packet : ℕ → ℕ → Payload → ℕ → Option Header → Packet
 packet from to y hops h = record { source = from; destination = to; payload = y; hops = hops; header = h }
 
-abbrev pub header : ℕ → ℕ → ℕ → ℕ → Header
-header from to spi hops = record { from = from; to = to; spi = record { 0 = spi }; hops = hops }
+abbrev pub header : ℕ → ℕ → ℕ → ℕ → Option Header
+header from to spi hops = Some (record { from = from; to = to; spi = record { 0 = spi }; hops = hops })
 
-abbrev pub in_no_tunnel : Header
-in_no_tunnel = header 0 0 0 0
+abbrev pub in_no_tunnel : Option Header
+in_no_tunnel = None
 
 abbrev pub row : ℕ → Bool → ℕ → ℕ → ℕ → ℕ → Row
 row a out from to q e = record { node = a; out = out; source = from; destination = to; peers = record { first = q }; establishment = e }

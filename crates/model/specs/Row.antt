@@ -1,6 +1,6 @@
 -- What a row means: the establishment that added it, the packets that it matches, the association that it names, the users that it
 -- stands for. Assumes nothing.
-use Rattle.std.specs.Prelude.{ℕ, ◌+◌, ◌*◌, ◌-◌, ◌/◌, ◌%◌, Bool, true, false, cond, not, ◌&&◌, List, leb, ltb, eqb, get_or, set, take}
+use Rattle.std.specs.Prelude.{ℕ, ◌+◌, ◌*◌, ◌-◌, ◌/◌, ◌%◌, Bool, true, false, cond, not, ◌&&◌, List, leb, ltb, eqb, get_or, set, take, Option, Some, None}
 use Rattle.calculus.specs.Number.{is_node, spi}
 use Rattle.calculus.specs.declared.number.Spi.{Spi}
 use Rattle.calculus.specs.declared.packet.Packet.{Packet}
@@ -13,10 +13,6 @@ use Rattle.model.specs.Packet.{concerns}
 -- a session's rows, the oldest first
 abbrev pub held : Part → List Row
 held t = take t.session.rows t.rows
-
--- no peer: 0 is no node
-abbrev pub no_peers : Peers
-no_peers = record { first = 0 }
 
 -- an out row and an in row at a, with the filter (from, to), peer q, of establishment e
 abbrev pub out_row : ℕ → ℕ → ℕ → ℕ → ℕ → Row
@@ -51,12 +47,12 @@ fits out a p r =
     && eqb r.destination p.destination
     && not (concerns p.payload r.establishment)
 
-abbrev pub newer : Bool → ℕ → Packet → Peers → Row → Peers
-newer out a p best r = cond (fits out a p r) r.peers best
+abbrev pub newer : Bool → ℕ → Packet → Option Peers → Row → Option Peers
+newer out a p best r = cond (fits out a p r) (Some r.peers) best
 
 -- match: the peers of the newest row that fits, the rows being in order of age; none where no row fits
-abbrev pub newest : List Row → Bool → ℕ → Packet → Peers
-newest rows out a p = fold (newer out a p) no_peers rows
+abbrev pub newest : List Row → Bool → ℕ → Packet → Option Peers
+newest rows out a p = fold (newer out a p) None rows
 
 -- ---- the association that a row names
 

@@ -1,5 +1,5 @@
 -- The seven rules of a step, each a function of what it reads that gives an effect. Assumes nothing.
-use Rattle.std.specs.Prelude.{ℕ, ◌+◌, Bool, true, false, cond, not, ◌&&◌, ◌||◌, List, leb, eqb, Option, Some, None}
+use Rattle.std.specs.Prelude.{ℕ, ◌+◌, Bool, true, false, cond, not, ◌&&◌, ◌||◌, List, leb, eqb, Option, Some, None, is_none, option_map}
 use Rattle.calculus.specs.declared.answer.Loss.{Loss}
 use Rattle.calculus.specs.declared.answer.Loss.TheVariants.{Unprotected, HopLimit, NoRoute, NoTunnel, WrongTunnel, Exhausted}
 use Rattle.calculus.specs.declared.effect.Outcome.{Outcome}
@@ -23,7 +23,7 @@ use Rattle.calculus.specs.declared.session.Session.{Session}
 use Rattle.calculus.specs.declared.state.Part.{Part}
 use Rattle.calculus.specs.declared.network.Network.{Network}
 use Rattle.model.specs.Network.{is_gateway, next_hop, has_all_needed}
-use Rattle.model.specs.Packet.{hop_limit, no_header, is_bare, bare, under, target, no_hops_left, fewer, is_data_or_done}
+use Rattle.model.specs.Packet.{hop_limit, bare, under, target, no_hops_left, fewer, is_data_or_done}
 use Rattle.model.specs.Row.{held, in_row, out_row, newest, admits, spi_of}
 
 -- ---- effects
@@ -82,7 +82,7 @@ begin a p e = record { outcome = WroteTwo (Dwait a) (Est a p e); wait = None; ad
 
 -- "a is a gateway, the packet bare, Data or Done"
 abbrev pub unprotected : Bool → Packet → Bool
-unprotected gateway p = gateway && (is_bare p.header && is_data_or_done p.payload)
+unprotected gateway p = gateway && (is_none p.header && is_data_or_done p.payload)
 
 -- the last two cases, by what the look-up says: "Lost 3 is left for neither"
 abbrev pub onward : NextHop → Packet → Effect
@@ -103,10 +103,8 @@ wire_rule gateway look s a p =
 -- ---- out
 
 -- the header (a, peer, SPI) of the matching out row, or none; it "brings an outer count of 32"
-abbrev pub header_to : ℕ → Peers → Header
-header_to a x =
-    let q = x.first in
-    cond (eqb q 0) no_header (record { from = a; to = q; spi = spi_of true a q; hops = hop_limit })
+abbrev pub header_to : ℕ → Option Peers → Option Header
+header_to a x = option_map (λ q. record { from = a; to = q.first; spi = spi_of true a q.first; hops = hop_limit }) x
 
 -- "give it the header (a, peer, SPI) of the matching out row, or none; write wire"
 abbrev pub sent : List Row → ℕ → Packet → Effect
@@ -126,16 +124,24 @@ out_rule rows a p =
 -- ---- up
 
 -- the q of "Header from q"; of a bare packet none
-abbrev pub stripped : Header → Peers
-stripped h = record { first = cond (is_bare h) 0 h.from }
+abbrev pub stripped : Option Header → Option Peers
+stripped h = option_map (λ x. record { first = x.from }) h
 
 -- a packet is bare, or "In(a, q) stands", which `standing a q` tells, "and an in row of this session at a has peer q"
-abbrev pub admitted : (ℕ → ℕ → Bool) → List Row → ℕ → Header → Bool
-admitted standing rows a h = let q = h.from in is_bare h || (standing a q && admits rows a q)
+abbrev pub admitted : (ℕ → ℕ → Bool) → List Row → ℕ → Option Header → Bool
+admitted standing rows a None = true
+admitted standing rows a (Some h) = standing a h.from && admits rows a h.from
+
+-- both are none, or both the same peer
+abbrev pub same_peers : Option Peers → Option Peers → Bool
+same_peers None None = true
+same_peers None (Some y) = false
+same_peers (Some x) None = false
+same_peers (Some x) (Some y) = eqb x.first y.first
 
 -- "the matching in row's peer must be q, or with no row q must be none"
 abbrev pub matched : List Row → ℕ → Packet → Bool
-matched rows a p = eqb (newest rows false a p).first (stripped p.header).first
+matched rows a p = same_peers (newest rows false a p) (stripped p.header)
 
 -- a packet from b, received at its destination a
 abbrev pub received : ℕ → ℕ → Payload → Effect
@@ -150,7 +156,7 @@ unfoldable pub up_rule : (ℕ → ℕ → Bool) → List Row → ℕ → Packet 
 up_rule standing rows a p =
     cond (not (admitted standing rows a p.header)) (lost NoTunnel)
     (cond (not (matched rows a p)) (lost WrongTunnel)
-    (cond (not (eqb p.destination a)) (writes (Out a (under p no_header)))
+    (cond (not (eqb p.destination a)) (writes (Out a (under p None)))
     (received a p.source p.payload)))
 
 -- ---- est, auth

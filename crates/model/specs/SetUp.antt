@@ -1,5 +1,5 @@
 -- What a set-up can hold, whatever the list of calls: no stated outcome for other tables is met. Proved in proofs/SetUp. Assumes nothing.
-use Rattle.std.specs.Prelude.{ℕ, ◌+◌, ◌*◌, ◌≤◌, ◌<◌, ◌≡◌, Bool, true, false, cond, not, ◌&&◌, List, [], ◌∷◌, ◌++◌, length, get_or, Option, Some, None}
+use Rattle.std.specs.Prelude.{ℕ, ◌+◌, ◌*◌, ◌≤◌, ◌<◌, ◌≡◌, Bool, true, false, cond, not, ◌&&◌, List, [], ◌∷◌, ◌++◌, length, get_or, Option, Some, None, is_none}
 use Rattle.calculus.specs.declared.effect.Outcome.{Outcome}
 use Rattle.calculus.specs.declared.effect.Outcome.TheVariants.{Wrote, WroteByDefault, WroteTwo, Lost, Denied, Opened, Delivered}
 use Rattle.calculus.specs.declared.effect.Wait.{Wait}
@@ -10,6 +10,7 @@ use Rattle.calculus.specs.declared.network.NextHop.{NextHop}
 use Rattle.calculus.specs.declared.network.NextHop.TheVariants.{Exact, Default, Missing}
 use Rattle.calculus.specs.declared.packet.Payload.{Payload}
 use Rattle.calculus.specs.declared.packet.Payload.TheVariants.{Req, Rep, Disc, Done, Data}
+use Rattle.calculus.specs.declared.packet.Header.{Header}
 use Rattle.calculus.specs.declared.packet.Packet.{Packet}
 use Rattle.calculus.specs.declared.packet.Item.{Item}
 use Rattle.calculus.specs.declared.packet.Item.TheVariants.{Free, Wire, Out, Up, Est, Auth, Grant, Ack, Dwait, Ewait}
@@ -19,7 +20,7 @@ use Rattle.calculus.specs.declared.state.State.{State}
 use Rattle.calculus.specs.Number.{within, is_session}
 use Rattle.model.specs.Lists.{tally, All, up_from}
 use Rattle.model.specs.Network.{given, is_gateway, next_hop}
-use Rattle.model.specs.Packet.{hop_limit, is_bare}
+use Rattle.model.specs.Packet.{hop_limit}
 use Rattle.model.specs.Row.{held, is_of, are_nodes, users_of, stands}
 use Rattle.model.specs.Rules.{rule}
 use Rattle.model.specs.State.{fresh, load, blank_slot, is_numbered, put_item, added_rows, applied}
@@ -93,15 +94,20 @@ abbrev pub Pends : List Slot → Option Wait → Type 0
 Pends l None = Unit
 Pends l (Some w) = 1 ≤ how_many_items (is_that_wait w) l
 
+-- the header's count is not above 32, if there is one
+abbrev pub FewOuter : Option Header → Type 0
+FewOuter None = Unit
+FewOuter (Some h) = h.hops ≤ hop_limit
+
 -- neither count is above 32
 abbrev pub FewHops : Packet → Type 0
-FewHops p = (p.hops ≤ hop_limit) × (p.header.hops ≤ hop_limit)
+FewHops p = (p.hops ≤ hop_limit) × FewOuter p.header
 
 -- what holds of the item's packet, if it has one: at out it is bare, so that there the count in use is the inner one
 abbrev pub HoldsPacket : Item → Type 0
 HoldsPacket Free = Unit
 HoldsPacket (Wire a p) = FewHops p
-HoldsPacket (Out a p) = FewHops p × (is_bare p.header ≡ true)
+HoldsPacket (Out a p) = FewHops p × (is_none p.header ≡ true)
 HoldsPacket (Up a p) = FewHops p
 HoldsPacket (Est a b e) = Unit
 HoldsPacket (Auth a q e side) = Unit

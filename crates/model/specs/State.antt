@@ -19,7 +19,6 @@ use Rattle.calculus.specs.declared.state.State.{State}
 use Rattle.model.specs.Lists.{place}
 use Rattle.model.specs.Network.{no_node}
 use Rattle.model.specs.Item.{vacant, is_that_wait}
-use Rattle.model.specs.Row.{no_peers}
 
 -- ---- fresh
 
@@ -27,7 +26,7 @@ abbrev pub blank_slot : Slot
 blank_slot = record { number = record { 0 = 0 }; item = Free }
 
 abbrev pub blank_row : Row
-blank_row = record { node = 0; out = false; source = 0; destination = 0; peers = no_peers; establishment = 0 }
+blank_row = record { node = 0; out = false; source = 0; destination = 0; peers = record { first = 0 }; establishment = 0 }
 
 abbrev pub blank_session : Session
 blank_session = record { stage = Stage.Unused; client = 0; server = 0; begun = 0; rows = 0; last = record { 0 = 0 } }
