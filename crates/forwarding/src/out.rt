@@ -8,24 +8,19 @@ use calculus::number::Spi;
 use calculus::packet::{HOP_LIMIT, Header, Item, Packet};
 use calculus::session::{Peers, Row};
 use effects::effect::{lost, writes};
-use items::packet::{fewer, no_header, no_hops_left, under};
+use items::packet::{fewer, no_hops_left, under};
 use rows::row::newest;
 
 // The header of the tunnel from `a`, or none.
-fn header_to(a: u8, x: Peers) -> Header
+fn header_to(a: u8, x: Option<Peers>) -> Option<Header>
     ensures { result ≡ spec.header_to a x }
 {
-    let q = x.first;
-    if q == 0 {
-        return no_header();
-    }
-    let spi = Spi::between(q, a);
-    Header {
+    x.map(|q| Header {
         from: a,
-        to: q,
-        spi,
+        to: q.first,
+        spi: Spi::between(q.first, a),
         hops: HOP_LIMIT,
-    }
+    })
 }
 
 // The packet through the tunnel of its matching out row, or bare.
@@ -33,9 +28,7 @@ fn sent(rows: [Row; 32], held: u8, a: u8, p: Packet) -> Effect
     ensures { result ≡ spec.sent (take held rows) a p }
 {
     let through = newest(rows, held, true, a, p);
-    let header = header_to(a, through);
-    let packet = under(p, header);
-    writes(Item::Wire(a, packet))
+    writes(Item::Wire(a, under(p, header_to(a, through))))
 }
 
 // out(a, packet): a node that did not create the packet takes one of its hops.
@@ -49,6 +42,5 @@ pub fn out(rows: [Row; 32], held: u8, a: u8, p: Packet) -> Effect
     if no_hops_left(p) {
         return lost(Loss::HopLimit);
     }
-    let again = fewer(p);
-    sent(rows, held, a, again)
+    sent(rows, held, a, fewer(p))
 }

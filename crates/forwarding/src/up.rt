@@ -8,43 +8,32 @@ use calculus::effect::{Effect, Outcome, Wait};
 use calculus::packet::{Header, Item, Packet, Payload, Side};
 use calculus::session::{Peers, Row};
 use effects::effect::{lost, only, writes, writes_for};
-use items::packet::{is_bare, no_header, under};
+use items::packet::under;
 use lookups::users::stands;
 use rows::row::{admits, newest};
 
 // What the header is from; none where there is no header.
-fn stripped(h: Header) -> Peers
+fn stripped(h: Option<Header>) -> Option<Peers>
     ensures { result ≡ spec.stripped h }
 {
-    if is_bare(h) {
-        return Peers { first: 0 };
-    }
-    Peers { first: h.from }
+    h.map(|x| Peers { first: x.from })
 }
 
 // Whether the packet is bare, or its header's association stands and this session has an in row of it.
-fn admitted(users: &[u16; 2048], rows: [Row; 32], held: u8, a: u8, h: Header) -> bool
+fn admitted(users: &[u16; 2048], rows: [Row; 32], held: u8, a: u8, h: Option<Header>) -> bool
     ensures { result ≡ spec.admitted (row.stands users.now false) (take held rows) a h }
 {
-    if is_bare(h) {
-        return true;
+    match h {
+        None => true,
+        Some(h) => stands(users, false, a, h.from) && admits(rows, held, a, h.from),
     }
-    if stands(users, false, a, h.from) {
-        return admits(rows, held, a, h.from);
-    }
-    false
 }
 
 // Whether the packet came through the tunnel of its matching in row, or through none where there is no row.
 fn matched(rows: [Row; 32], held: u8, a: u8, p: Packet) -> bool
     ensures { result ≡ spec.matched (take held rows) a p }
 {
-    let header = p.header;
-    let row = newest(rows, held, false, a, p);
-    let from = stripped(header);
-    let peer = row.first;
-    let q = from.first;
-    peer == q
+    newest(rows, held, false, a, p) == stripped(p.header)
 }
 
 // A packet from `b`, received at its destination `a`.
@@ -68,18 +57,14 @@ fn received(a: u8, b: u8, y: Payload) -> Effect
 pub fn up(users: &[u16; 2048], rows: [Row; 32], held: u8, a: u8, p: Packet) -> Effect
     ensures { result ≡ spec.up_rule (row.stands users.now false) (take held rows) a p }
 {
-    let header = p.header;
-    let payload = p.payload;
-    if !admitted(users, rows, held, a, header) {
+    if !admitted(users, rows, held, a, p.header) {
         return lost(Loss::NoTunnel);
     }
     if !matched(rows, held, a, p) {
         return lost(Loss::WrongTunnel);
     }
     if p.destination != a {
-        let none = no_header();
-        let inner = under(p, none);
-        return writes(Item::Out(a, inner));
+        return writes(Item::Out(a, under(p, None)));
     }
-    received(a, p.source, payload)
+    received(a, p.source, p.payload)
 }

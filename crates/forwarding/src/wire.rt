@@ -10,7 +10,7 @@ use calculus::network::{Network, NextHop};
 use calculus::packet::{Item, Packet, Payload};
 use calculus::session::Session;
 use effects::effect::{lost, only, writes};
-use items::packet::{fewer, is_bare, is_data_or_done, no_hops_left, target};
+use items::packet::{fewer, is_data_or_done, no_hops_left, target};
 use lookups::network::{is_gateway, next_hop};
 
 // Whether a Disc is met at `a`: a gateway or the server, and not its last tunnel point.
@@ -18,19 +18,8 @@ fn discovers(gateway: bool, server: u8, a: u8, y: Payload) -> bool
     ensures { result ≡ spec.discovers gateway server a y }
 {
     match y {
-        Payload::Req(_) => false,
-        Payload::Rep(_) => false,
-        Payload::Disc(p) => {
-            if a == p {
-                return false;
-            }
-            if gateway {
-                return true;
-            }
-            a == server
-        }
-        Payload::Done => false,
-        Payload::Data(_) => false,
+        Payload::Disc(p) => a != p && (gateway || a == server),
+        _ => false,
     }
 }
 
@@ -38,11 +27,8 @@ fn last_point(y: Payload) -> u8
     ensures { result ≡ spec.last_point y }
 {
     match y {
-        Payload::Req(_) => 0,
-        Payload::Rep(_) => 0,
         Payload::Disc(p) => p,
-        Payload::Done => 0,
-        Payload::Data(_) => 0,
+        _ => 0,
     }
 }
 
@@ -60,14 +46,7 @@ fn begin(a: u8, p: u8, e: u8) -> Effect
 fn unprotected(gateway: bool, p: Packet) -> bool
     ensures { result ≡ spec.unprotected gateway p }
 {
-    let header = p.header;
-    let payload = p.payload;
-    if gateway {
-        if is_bare(header) {
-            return is_data_or_done(payload);
-        }
-    }
-    false
+    gateway && p.header.is_none() && is_data_or_done(p.payload)
 }
 
 fn onward(next: NextHop, p: Packet) -> Effect
@@ -84,18 +63,15 @@ fn onward(next: NextHop, p: Packet) -> Effect
 fn routed(n: &Network, a: u8, p: Packet) -> Effect
     ensures { result ≡ spec.onward (next_hop n.now a (packet.target p)) (packet.fewer p) }
 {
-    let to = target(p);
-    let next = next_hop(n, a, to);
-    let moved = fewer(p);
-    onward(next, moved)
+    let next = next_hop(n, a, target(p));
+    onward(next, fewer(p))
 }
 
 // Whether the packet has come to where it goes.
 fn arrived(a: u8, p: Packet) -> bool
     ensures { result ≡ eqb a (packet.target p) }
 {
-    let t = target(p);
-    a == t
+    a == target(p)
 }
 
 // The first case that fits, where `gateway` tells whether `a` is one.
@@ -103,13 +79,11 @@ fn arrived(a: u8, p: Packet) -> bool
 fn first_fit(gateway: bool, n: &Network, s: Session, a: u8, p: Packet) -> Effect
     ensures { result ≡ spec.wire_rule gateway (next_hop n.now a) s a p }
 {
-    let payload = p.payload;
-    if discovers(gateway, s.server, a, payload) {
+    if discovers(gateway, s.server, a, p.payload) {
         if 8 <= s.begun {
             return lost(Loss::Exhausted);
         }
-        let point = last_point(payload);
-        return begin(a, point, s.begun + 1);
+        return begin(a, last_point(p.payload), s.begun + 1);
     }
     if arrived(a, p) {
         return writes(Item::Up(a, p));

@@ -49,12 +49,12 @@ fn fits(out: bool, a: u8, p: Packet, r: Row) -> bool
 }
 
 // The match after a row that is newer than all before it.
-pub fn newer(q: Query, best: Peers, r: Row) -> Peers
+pub fn newer(q: Query, best: Option<Peers>, r: Row) -> Option<Peers>
     ensures { result ≡ spec.newer q.out q.node q.packet best r }
 {
     let p = q.packet;
     if fits(q.out, q.node, p, r) {
-        return r.peers;
+        return Some(r.peers);
     }
     best
 }

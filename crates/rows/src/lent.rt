@@ -13,11 +13,11 @@ fn row_at(rows: &[Row], i: usize) -> Row
 }
 
 // The match of the first `n` rows, from the oldest to the newest.
-fn newest(rows: &[Row], n: usize, q: Query) -> Peers
+fn newest(rows: &[Row], n: usize, q: Query) -> Option<Peers>
     requires { n ≤ length rows.now }
     ensures { result ≡ spec.newest (take n rows.now) q.out q.node q.packet }
 {
-    let mut best = Peers { first: 0 };
+    let mut best = None;
     let mut i = 0;
     while i < n {
         let row = row_at(rows, i);
@@ -28,7 +28,7 @@ fn newest(rows: &[Row], n: usize, q: Query) -> Peers
 }
 
 // The same of rows by value, which are lent to it.
-pub fn newest_in(rows: [Row; 32], n: usize, q: Query) -> Peers
+pub fn newest_in(rows: [Row; 32], n: usize, q: Query) -> Option<Peers>
     requires { n ≤ 32 }
     ensures { result ≡ spec.newest (take n rows) q.out q.node q.packet }
 {

@@ -8,7 +8,7 @@ use calculus::packet::Packet;
 use calculus::session::{Peers, Row};
 
 // Match: the peers of the newest row that fits, none where no row does.
-pub fn newest(rows: [Row; 32], held: u8, out: bool, a: u8, p: Packet) -> Peers
+pub fn newest(rows: [Row; 32], held: u8, out: bool, a: u8, p: Packet) -> Option<Peers>
     ensures { result ≡ spec.newest (take held rows) out a p }
 {
     let q = Query {
