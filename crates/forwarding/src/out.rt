@@ -1,5 +1,5 @@
 // The rule out.
-ghost use Rattle.std.specs.Prelude.{◌≡◌, take};
+ghost use Rattle.std.specs.Prelude.{◌≡◌};
 ghost use Rattle.model.specs.Rules as spec;
 
 use calculus::answer::Loss;
@@ -24,23 +24,23 @@ fn header_to(a: u8, x: Option<Peers>) -> Option<Header>
 }
 
 // The packet through the tunnel of its matching out row, or bare.
-fn sent(rows: [Row; 32], held: u8, a: u8, p: Packet) -> Effect
-    ensures { result ≡ spec.sent (take held rows) a p }
+fn sent(rows: &[Row], a: u8, p: Packet) -> Effect
+    ensures { result ≡ spec.sent rows.now a p }
 {
-    let through = newest(rows, held, true, a, p);
+    let through = newest(rows, true, a, p);
     writes(Item::Wire(a, under(p, header_to(a, through))))
 }
 
 // out(a, packet): a node that did not create the packet takes one of its hops.
 #[tactic(auto, unfolding(model::specs::Rules::out_rule))]
-pub fn out(rows: [Row; 32], held: u8, a: u8, p: Packet) -> Effect
-    ensures { result ≡ spec.out_rule (take held rows) a p }
+pub fn out(rows: &[Row], a: u8, p: Packet) -> Effect
+    ensures { result ≡ spec.out_rule rows.now a p }
 {
     if a == p.source {
-        return sent(rows, held, a, p);
+        return sent(rows, a, p);
     }
     if no_hops_left(p) {
         return lost(Loss::HopLimit);
     }
-    sent(rows, held, a, fewer(p))
+    sent(rows, a, fewer(p))
 }

@@ -1,5 +1,5 @@
 // The rule up.
-ghost use Rattle.std.specs.Prelude.{◌≡◌, false, take};
+ghost use Rattle.std.specs.Prelude.{◌≡◌, false};
 ghost use Rattle.model.specs.Row as row;
 ghost use Rattle.model.specs.Rules as spec;
 
@@ -20,20 +20,20 @@ fn stripped(h: Option<Header>) -> Option<Peers>
 }
 
 // Whether the packet is bare, or its header's association stands and this session has an in row of it.
-fn admitted(users: &[u16; 2048], rows: [Row; 32], held: u8, a: u8, h: Option<Header>) -> bool
-    ensures { result ≡ spec.admitted (row.stands users.now false) (take held rows) a h }
+fn admitted(users: &[u16; 2048], rows: &[Row], a: u8, h: Option<Header>) -> bool
+    ensures { result ≡ spec.admitted (row.stands users.now false) rows.now a h }
 {
     match h {
         None => true,
-        Some(h) => stands(users, false, a, h.from) && admits(rows, held, a, h.from),
+        Some(h) => stands(users, false, a, h.from) && admits(rows, a, h.from),
     }
 }
 
 // Whether the packet came through the tunnel of its matching in row, or through none where there is no row.
-fn matched(rows: [Row; 32], held: u8, a: u8, p: Packet) -> bool
-    ensures { result ≡ spec.matched (take held rows) a p }
+fn matched(rows: &[Row], a: u8, p: Packet) -> bool
+    ensures { result ≡ spec.matched rows.now a p }
 {
-    newest(rows, held, false, a, p) == stripped(p.header)
+    newest(rows, false, a, p) == stripped(p.header)
 }
 
 // A packet from `b`, received at its destination `a`.
@@ -54,13 +54,13 @@ fn received(a: u8, b: u8, y: Payload) -> Effect
 
 // up(a, packet): admit, match, then strip and forward, or receive.
 #[tactic(auto, unfolding(model::specs::Rules::up_rule))]
-pub fn up(users: &[u16; 2048], rows: [Row; 32], held: u8, a: u8, p: Packet) -> Effect
-    ensures { result ≡ spec.up_rule (row.stands users.now false) (take held rows) a p }
+pub fn up(users: &[u16; 2048], rows: &[Row], a: u8, p: Packet) -> Effect
+    ensures { result ≡ spec.up_rule (row.stands users.now false) rows.now a p }
 {
-    if !admitted(users, rows, held, a, p.header) {
+    if !admitted(users, rows, a, p.header) {
         return lost(Loss::NoTunnel);
     }
-    if !matched(rows, held, a, p) {
+    if !matched(rows, a, p) {
         return lost(Loss::WrongTunnel);
     }
     if p.destination != a {

@@ -1,5 +1,5 @@
 // The users of associations, in the order node, in before out, peer.
-ghost use Rattle.std.specs.Prelude.{◌≡◌, cond, ◌<◌, ◌≤◌, take};
+ghost use Rattle.std.specs.Prelude.{◌≡◌, cond, ◌<◌, Some, None, IfSome};
 ghost use Rattle.model.specs.Row as spec;
 
 use calculus::number::is_node;
@@ -8,22 +8,19 @@ use calculus::session::Row;
 fn are_nodes(a: u8, q: u8) -> bool
     ensures { result ≡ spec.are_nodes a q }
 {
-    if is_node(a as u64) {
-        return is_node(q as u64);
-    }
-    false
+    is_node(a as u64) && is_node(q as u64)
 }
 
-// The place of an association's users.
-fn place(out: bool, a: u8, q: u8) -> usize
-    requires { (1 ≤ a) × (a ≤ 32) × (1 ≤ q) × (q ≤ 32) }
-    ensures { (result ≡ spec.users_place out a q) × (result < 2048) }
+// The place of the users of In(a, q) or Out(a, q); none where a or q is no node.
+fn place(out: bool, a: u8, q: u8) -> Option<usize>
+    ensures is { result ≡ cond (spec.are_nodes a q) (Some (spec.users_place out a q)) None }
+    ensures inside { IfSome result (λ at. at < 2048) }
 {
-    let first = 64 * (a as usize - 1);
-    if out {
-        return first + 32 + (q as usize - 1);
+    if !are_nodes(a, q) {
+        return None;
     }
-    first + (q as usize - 1)
+    let side = if out { 32 } else { 0 };
+    Some(64 * (a as usize - 1) + side + (q as usize - 1))
 }
 
 // Whether In(a, q) or Out(a, q) stands; none does where a or q is no node.
@@ -31,60 +28,44 @@ fn place(out: bool, a: u8, q: u8) -> usize
 pub fn stands(users: &[u16; 2048], out: bool, a: u8, q: u8) -> bool
     ensures { result ≡ spec.stands users.now out a q }
 {
-    if are_nodes(a, q) {
-        let at = place(out, a, q);
-        return 0 < users[at];
+    match place(out, a, q) {
+        Some(at) => 0 < users[at],
+        None => false,
     }
-    false
 }
 
-// One user more, or one less; 65,535 and 0 stay.
-fn moved(more: bool, n: u16) -> u16
-    ensures { result ≡ cond more spec.one_more spec.one_less n }
+// 65,535 users stay.
+fn one_more(n: u16) -> u16
+    ensures { result ≡ spec.one_more n }
 {
-    if more {
-        if n < 65535 {
-            return n + 1;
-        }
-        return n;
-    }
-    if n < 1 {
-        return n;
-    }
-    n - 1
-}
-
-// The users once a row has come, or has gone.
-#[tactic(auto, unfolding(model::specs::Row::with_users))]
-fn with_row(users: &mut [u16; 2048], more: bool, r: Row)
-    ensures { users.new ≡ spec.with_users (cond more spec.one_more spec.one_less) users.old r }
-{
-    if are_nodes(r.node, r.peers.first) {
-        let at = place(r.out, r.node, r.peers.first);
-        let n = users[at];
-        users[at] = moved(more, n);
-    }
+    if n < 65535 { n + 1 } else { n }
 }
 
 // The users once a row has come; as they were where its node or its peer is no node, or where they are 65,535.
+#[tactic(auto, unfolding(model::specs::Row::with_users))]
 pub fn raise(users: &mut [u16; 2048], r: Row)
     ensures { users.new ≡ spec.with_users spec.one_more users.old r }
 {
-    with_row(users, true, r);
+    if let Some(at) = place(r.out, r.node, r.peers.first) {
+        users[at] = one_more(users[at]);
+    }
 }
 
-// The users once the first `held` rows have gone, of each as in `raise`; 0 stays.
-pub fn lower(users: &mut [u16; 2048], rows: [Row; 32], held: u8)
-    ensures { users.new ≡ spec.lowered users.old (take held rows) }
+// The users once a row has gone, as in `raise`; 0 stays.
+#[tactic(auto, unfolding(model::specs::Row::with_users))]
+fn lower_one(users: &mut [u16; 2048], r: &Row)
+    ensures { users.new ≡ spec.with_users spec.one_less users.old r.now }
 {
-    let n = held as usize;
-    let mut i: usize = 0;
-    while i < 32 {
-        if n <= i {
-            return;
-        }
-        let row = rows[i];
-        with_row(users, false, row);
-        i += 1;
+    if let Some(at) = place(r.out, r.node, r.peers.first) {
+        users[at] = users[at].saturating_sub(1);
+    }
+}
+
+// The users once these rows have gone.
+pub fn lower(users: &mut [u16; 2048], rows: &[Row])
+    ensures { users.new ≡ spec.lowered users.old rows.now }
+{
+    for row in rows {
+        lower_one(users, row);
     }
 }

@@ -2,7 +2,7 @@
 -- of a list after a run of stores. Assumes nothing.
 use mathlib.Core.Path.{◌≡◌, refl, ap, ◌∙◌}
 use mathlib.Core.Bool.{Bool, true, false, cond, not}
-use mathlib.Core.List.{List, [], ◌∷◌, ◌++◌}
+use mathlib.Core.List.{List, [], ◌∷◌, ◌++◌, reverse, reverse-cons}
 use Prim.Native.Nat.{ℕ, zero, suc, ◌+◌, ◌≤◌, ◌<◌}
 use native.Mathlib.Nat.{zero-add, add-zero}
 use native.Mathlib.Omega.{arith}
@@ -43,6 +43,10 @@ module _ {A : Type 0} (P : A → Type 0) where
   pub all_append : (l m : List A) → All P l → All P m → All P (l ++ m)
   all_append [] m h k = k
   all_append (y ∷ l) m h k = (h.0, all_append l m h.1 k)
+
+  pub all_reverse : (l : List A) → All P l → All P (reverse l)
+  all_reverse [] h = tt
+  all_reverse (y ∷ l) h = rw (reverse-cons y l) (all_append (reverse l) (y ∷ []) (all_reverse l h.1) (h.0, tt))
 
   pub all_take : (n : ℕ) (l : List A) → All P l → All P (take n l)
   all_take zero l h = tt

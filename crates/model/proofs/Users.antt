@@ -1,15 +1,16 @@
 -- The users of an association, as rows raise and lower them, and the rows that name it, counted. Assumes nothing.
 use mathlib.Core.Path.{◌≡◌, refl, sym, ◌∙◌}
-use mathlib.Core.Bool.{Bool, true, false, cond, not}
+use mathlib.Core.Bool.{Bool, true, false, cond, not, ◌||◌}
 use mathlib.Core.List.{List, [], ◌∷◌, ◌++◌}
 use Prim.Native.Nat.{ℕ, ◌+◌, ◌≤◌, ◌<◌}
 use native.Mathlib.Omega.{arith}
 use lib.ListN.{length, get_or, set, length-set}
 use lib.Seq.{get_or-set_same, get_or-set_other}
-use borrow.Author.Tests.{ltb-true, lt-ltb}
+use borrow.Author.Tests.{lt-ltb}
+use Rattle.std.specs.List.{list_any}
 use Rattle.calculus.proofs.Tests.{never, either}
 use Rattle.calculus.specs.declared.session.Row.{Row}
-use Rattle.model.specs.Lists.{fold, those}
+use Rattle.model.specs.Lists.{fold, tally, those}
 use Rattle.model.specs.Row.{names, admits, how_many, users_place, are_nodes, users_of, with_users, one_more, one_less, raised, lowered}
 use Rattle.model.proofs.Checks.{one, one_le}
 use Rattle.model.proofs.Lists.{tally_append, tally_split}
@@ -33,8 +34,14 @@ module _ (out : Bool) (a q : ℕ) where
   many_length (r ∷ l) = omega (arith, many_length l, one_le (names out a q r))
 
 pub admits_some : (a q : ℕ) (l : List Row) → admits l a q ≡ true → 1 ≤ how_many false a q l
-unfolding admits
-admits_some a q l e = ltb-true 0 (how_many false a q l) e
+unfolding admits how_many
+admits_some a q [] e = never e
+admits_some a q (r ∷ l) e = go (names false a q r) (admits_some a q l) e
+  where
+    go : (b : Bool) → (list_any (names false a q) l ≡ true → 1 ≤ tally (names false a q) l) → (b || list_any (names false a q) l) ≡ true
+        → 1 ≤ one b + tally (names false a q) l
+    go true h k = omega arith
+    go false h k = omega (arith, h k)
 
 -- ---- users, as one row changes them
 

@@ -1,6 +1,7 @@
 -- What a row means: the establishment that added it, the packets that it matches, the association that it names, the users that it
 -- stands for. Assumes nothing.
-use Rattle.std.specs.Prelude.{ℕ, ◌+◌, ◌*◌, ◌-◌, ◌/◌, ◌%◌, Bool, true, false, cond, not, ◌&&◌, List, leb, ltb, eqb, get_or, set, take, Option, Some, None}
+use Rattle.std.specs.Prelude.{ℕ, ◌+◌, ◌*◌, ◌-◌, ◌/◌, ◌%◌, Bool, true, false, cond, not, ◌&&◌, List, leb, ltb, eqb, reverse, get_or, set, take, Option, option_map}
+use Rattle.std.specs.List.{find, list_any}
 use Rattle.calculus.specs.Number.{is_node, spi}
 use Rattle.calculus.specs.declared.number.Spi.{Spi}
 use Rattle.calculus.specs.declared.packet.Packet.{Packet}
@@ -47,12 +48,9 @@ fits out a p r =
     && eqb r.destination p.destination
     && not (concerns p.payload r.establishment)
 
-abbrev pub newer : Bool → ℕ → Packet → Option Peers → Row → Option Peers
-newer out a p best r = cond (fits out a p r) (Some r.peers) best
-
 -- match: the peers of the newest row that fits, the rows being in order of age; none where no row fits
 abbrev pub newest : List Row → Bool → ℕ → Packet → Option Peers
-newest rows out a p = fold (newer out a p) None rows
+newest rows out a p = option_map (λ r. r.peers) (find (fits out a p) (reverse rows))
 
 -- ---- the association that a row names
 
@@ -77,7 +75,7 @@ how_many out a q rows = tally (names out a q) rows
 
 -- "an in row of this session at a has peer q"
 unfoldable pub admits : List Row → ℕ → ℕ → Bool
-admits rows a q = ltb 0 (how_many false a q rows)
+admits rows a q = list_any (names false a q) rows
 
 -- the place of an association's users: in the order node, in before out, peer
 abbrev pub users_place : Bool → ℕ → ℕ → ℕ

@@ -1,7 +1,5 @@
 // A session's rows: match, the association that a row names, and the establishment that added it.
 #![tactic(auto)]
 
-mod fit;
-mod lent;
 pub mod picked;
 pub mod row;

@@ -1,45 +1,45 @@
-// A session's rows are the first `held` of the 32, the oldest first.
-ghost use Rattle.std.specs.Prelude.{◌≡◌, take};
+// Match, the association that a row names, and the rows of a tunnel's end.
+ghost use Rattle.std.specs.Prelude.{◌≡◌};
 ghost use Rattle.model.specs.Row as spec;
 
-use crate::fit::{Query, names};
-use crate::lent::newest_in;
 use calculus::packet::Packet;
 use calculus::session::{Peers, Row};
+use items::packet::concerns;
 
-// Match: the peers of the newest row that fits, none where no row does.
-pub fn newest(rows: [Row; 32], held: u8, out: bool, a: u8, p: Packet) -> Option<Peers>
-    ensures { result ≡ spec.newest (take held rows) out a p }
+// Whether the row is at `a` in this direction, its filter is the packet's, and it is not skipped.
+fn fits(out: bool, a: u8, p: Packet, r: &Row) -> bool
+    ensures { result ≡ spec.fits out a p r.now }
 {
-    let q = Query {
-        out,
-        node: a,
-        packet: p,
-    };
-    let n = held as usize;
-    if n <= 32 {
-        return newest_in(rows, n, q);
-    }
-    newest_in(rows, 32, q)
+    r.out == out
+        && r.node == a
+        && r.source == p.source
+        && r.destination == p.destination
+        && !concerns(p.payload, r.establishment)
+}
+
+// Match: the peers of the newest of the rows that fits, which stand in order of age; none where no row does.
+pub fn newest(rows: &[Row], out: bool, a: u8, p: Packet) -> Option<Peers>
+    ensures { result ≡ spec.newest rows.now out a p }
+{
+    rows.iter()
+        .rev()
+        .find(|r| fits(out, a, p, r))
+        .map(|r| r.peers)
+}
+
+// Whether the row names In(a, q), or Out(a, q).
+fn names(out: bool, a: u8, q: u8, r: &Row) -> bool
+    ensures { result ≡ spec.names out a q r.now }
+{
+    r.out == out && r.node == a && r.peers.first == q
 }
 
 // Whether an in row at `a` has the peer `q`.
-pub fn admits(rows: [Row; 32], held: u8, a: u8, q: u8) -> bool
-    ensures { result ≡ spec.admits (take held rows) a q }
+#[tactic(auto, unfolding(model::specs::Row::admits))]
+pub fn admits(rows: &[Row], a: u8, q: u8) -> bool
+    ensures { result ≡ spec.admits rows.now a q }
 {
-    let n = held as usize;
-    let mut i: usize = 0;
-    while i < 32 {
-        if n <= i {
-            return false;
-        }
-        let row = rows[i];
-        if names(false, a, q, row) {
-            return true;
-        }
-        i += 1;
-    }
-    false
+    rows.iter().any(|r| names(false, a, q, r))
 }
 
 // A row at `a` for packets out of it, with the filter (from, to).

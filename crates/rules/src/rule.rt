@@ -15,13 +15,13 @@ use forwarding::out::out;
 use forwarding::up::up;
 use forwarding::wire::wire;
 use lookups::network::has_all_needed;
+use lookups::rows::held;
 
 // Auth, with whether q has all that a needs.
 fn auth_at(n: &Network, a: u8, q: u8, e: u8, side: Side) -> Effect
     ensures { result ≡ spec.auth_rule (has_all_needed n.now a q) a q e side }
 {
-    let enough = has_all_needed(n, a, q);
-    auth(enough, a, q, e, side)
+    auth(has_all_needed(n, a, q), a, q, e, side)
 }
 
 // A free place and a wait have no rule: a step of one is refused before.
@@ -32,22 +32,19 @@ fn never_met() -> Effect
 }
 
 // What the item's rule does, for the session whose part is `t`.
-pub fn rule(n: &Network, users: &[u16; 2048], t: Part, i: Item) -> Effect
-    ensures { result ≡ spec.rule n.now (row.stands users.now false) t i }
+#[tactic(auto, unfolding(model::specs::Rules::rule))]
+pub fn rule(n: &Network, users: &[u16; 2048], t: &Part, i: Item) -> Effect
+    ensures { result ≡ spec.rule n.now (row.stands users.now false) t.now i }
 {
     let s = t.session;
-    let rows = t.rows;
-    let held = s.rows;
     match i {
-        Item::Free => never_met(),
         Item::Wire(a, p) => wire(n, s, a, p),
-        Item::Out(a, p) => out(rows, held, a, p),
-        Item::Up(a, p) => up(users, rows, held, a, p),
+        Item::Out(a, p) => out(held(t), a, p),
+        Item::Up(a, p) => up(users, held(t), a, p),
         Item::Est(a, b, e) => est(a, b, e),
         Item::Auth(a, q, e, side) => auth_at(n, a, q, e, side),
         Item::Grant(a, q, e, side) => grant(s, a, q, e, side),
         Item::Ack(a, _) => ack(s, a),
-        Item::Dwait(_) => never_met(),
-        Item::Ewait(_, _) => never_met(),
+        Item::Free | Item::Dwait(_) | Item::Ewait(_, _) => never_met(),
     }
 }

@@ -1,11 +1,7 @@
--- The first i of the rows have gone.
-use Rattle.std.proofs.Common.{◌-◌}
-use Rattle.model.specs.Row.{with_users, one_less}
-use Rattle.lookups.proofs.Walks.{Walked}
+-- The first rows have gone.
+use Rattle.std.proofs.Common.{◌≡◌, take}
+use Rattle.model.specs.Row.{lowered}
 use Rattle.lookups.proofs.users.lower.Given as goal
 
-abbrev pub invariant-loop-i : goal.invariant-loop-i
-invariant-loop-i l = Walked (with_users one_less) l.initial.users l.held l.rows l.users l.i
-
-abbrev pub decreases-loop-i : goal.decreases-loop-i
-decreases-loop-i l = 32 - l.i
+abbrev pub invariant-loop-row : goal.invariant-loop-row
+invariant-loop-row l = l.users ≡ lowered l.initial.users (take l.row-index l.fn.rows)
