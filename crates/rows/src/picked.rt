@@ -1,8 +1,12 @@
 // The rows of one establishment, or the others, picked out of a session's.
-ghost use Rattle.std.specs.Prelude.{◌≡◌, ◌≤◌};
+ghost use Rattle.std.specs.Prelude.{◌≡◌, ◌<◌, Bool, take};
+ghost use Rattle.calculus.specs.declared.session.Row.{Row};
+ghost use Rattle.model.specs.Row.{is_of, is_other};
 ghost use Rattle.rows.specs.Picked as spec;
 
 use calculus::session::Row;
+use calculus::state::Part;
+use lookups::rows::{first, held};
 
 // Rows, the oldest first: the first `held` of the places.
 #[derive(Clone, Copy)]
@@ -11,49 +15,50 @@ pub struct Rows {
     pub held: u8,
 }
 
-fn is_picked(own: bool, e: u8, r: Row) -> bool
-    ensures { result ≡ spec.is_picked own e r }
-{
-    if own {
-        return r.establishment == e;
+impl Rows {
+    // The rows that are held.
+    pub fn as_slice(&self) -> &[Row]
+        ensures { result.now ≡ take self.now.held self.now.places }
+    {
+        first(&self.places, self.held)
     }
-    r.establishment != e
+
+    fn push(&mut self, r: Row)
+        requires { self.old.held < 32 }
+        ensures { self.new ≡ spec.with_row self.old r }
+    {
+        self.places[self.held as usize] = r;
+        self.held += 1;
+    }
 }
 
-// The rows with `r` behind them, if it is picked.
-fn with_picked(own: bool, e: u8, rows: Rows, r: Row) -> Rows
-    requires { rows.held ≤ 31 }
-    ensures { result ≡ spec.with_picked own e rows r }
+// The session's rows that pass `test`, over its first places and in their order.
+fn picked<F: Fn(&Row) -> bool>(t: &Part, test: F) -> Rows
+    requires { F.IsAlwaysCallable test }
+    ensures { (p : Row → Bool) → spec.TestsAs F.Fn test p → result ≡ spec.picked_of p t.now }
 {
-    if is_picked(own, e, r) {
-        let at = rows.held as usize;
-        let mut places = rows.places;
-        places[at] = r;
-        return Rows {
-            places,
-            held: rows.held + 1,
-        };
-    }
-    rows
-}
-
-// The rows of establishment `e` among the first `held`, or, where `own` is false, the others. They keep their order.
-pub fn picked(own: bool, e: u8, rows: [Row; 32], held: u8) -> Rows
-    ensures { result ≡ spec.picked_of own e rows held }
-{
-    let n = held as usize;
     let mut found = Rows {
-        places: rows,
+        places: t.rows,
         held: 0,
     };
-    let mut i: usize = 0;
-    while i < 32 {
-        if n <= i {
-            return found;
+    for row in held(t) {
+        if test(row) {
+            found.push(*row);
         }
-        let row = rows[i];
-        found = with_picked(own, e, found, row);
-        i += 1;
     }
     found
+}
+
+// The session's rows that establishment `e` added.
+pub fn rows_of(t: &Part, e: u8) -> Rows
+    ensures { result ≡ spec.picked_of (is_of e) t.now }
+{
+    picked(t, |r| r.establishment == e)
+}
+
+// The session's rows that another establishment added.
+pub fn other_rows(t: &Part, e: u8) -> Rows
+    ensures { result ≡ spec.picked_of (is_other e) t.now }
+{
+    picked(t, |r| r.establishment != e)
 }

@@ -1,10 +1,11 @@
--- `found` is what was picked of the first i rows.
-use Rattle.std.proofs.Common.{◌-◌}
-use Rattle.rows.proofs.Picks.{Picking}
+-- `found` is what was picked of the first rows.
+use Rattle.std.proofs.Common.{◌≡◌, ◌≤◌, Bool}
+use Rattle.calculus.specs.declared.session.Row.{Row}
+use Rattle.rows.specs.Picked.{TestsAs}
+use Rattle.rows.proofs.Picks.{first_picked}
 use Rattle.rows.proofs.picked.picked.Given as goal
 
-abbrev pub invariant-loop-i : goal.invariant-loop-i
-invariant-loop-i l = Picking l.own l.e l.rows l.n l.found l.i
-
-abbrev pub decreases-loop-i : goal.decreases-loop-i
-decreases-loop-i l = 32 - l.i
+abbrev pub invariant-loop-row : goal.invariant-loop-row
+invariant-loop-row g l =
+    (l.found.held ≤ l.row-index)
+    × ((p : Row → Bool) → TestsAs g.F.Fn l.fn.test p → l.found ≡ first_picked p l.fn.t l.row-index)
