@@ -43,10 +43,8 @@ pub enum Side {
 // What a session has pending, each as document 01 writes it: wire(a, packet, h), out(a, packet), up(a, packet),
 // est(a, b, e), auth(a, q, e, side), grant(a, q, e, side), ack(a, e), dwait(a), ewait(a, e).
 // Document 01's in(a, packet, q) is part of up since request #107, and wire's h stands in its packet since #108.
-// `Free` is a place with no item.
 #[derive(Clone, Copy)]
 pub enum Item {
-    Free,
     Wire(u8, Packet),
     Out(u8, Packet),
     Up(u8, Packet),
@@ -58,7 +56,7 @@ pub enum Item {
     Ewait(u8, u8),
 }
 
-// A place for an item, with the item's number.
+// A pending item, with its number.
 #[derive(Clone, Copy)]
 pub struct Slot {
     pub number: ItemNumber,

@@ -8,7 +8,7 @@ use crate::session::{Row, Session};
 #[derive(Clone, Copy)]
 pub struct Part {
     pub session: Session,
-    pub items: [Slot; 16],
+    pub items: [Option<Slot>; 16],
     pub rows: [Row; 32],
 }
 
@@ -19,7 +19,7 @@ pub struct State {
     pub opened: bool,
     pub network: Network,
     pub sessions: [Session; 8],
-    pub items: [Slot; 128],
+    pub items: [Option<Slot>; 128],
     pub rows: [Row; 256],
     pub users: [u16; 2048],
 }

@@ -20,7 +20,7 @@ use Rattle.calculus.specs.declared.packet.Packet.{Packet}
 use Rattle.calculus.specs.declared.packet.Side.{Side}
 use Rattle.calculus.specs.declared.packet.Side.TheVariants.{Responder, Initiator}
 use Rattle.calculus.specs.declared.packet.Item.{Item}
-use Rattle.calculus.specs.declared.packet.Item.TheVariants.{Free, Wire, Out, Up, Est, Auth, Grant, Ack, Dwait, Ewait}
+use Rattle.calculus.specs.declared.packet.Item.TheVariants.{Wire, Out, Up, Est, Auth, Grant, Ack, Dwait, Ewait}
 use Rattle.calculus.specs.declared.session.Row.{Row}
 use Rattle.calculus.specs.declared.session.Session.{Session}
 use Rattle.calculus.specs.declared.state.Part.{Part}
@@ -29,7 +29,7 @@ use Rattle.model.specs.Packet.{target, no_hops_left, fewer, is_data}
 use Rattle.model.specs.Row.{held}
 use Rattle.model.specs.Rules.{writes_for, discovers, last_point, is_exhausted, begin, unprotected, onward, wire_rule, created, out_rule, admitted, matched, received, up_rule, est_rule, auth_rule, grant_rule, ack_rule, rule}
 use Rattle.model.specs.State.{written_count, stage_after, begun_after, added_rows}
-use Rattle.model.specs.SetUp.{is_pending, is_grant}
+use Rattle.model.specs.SetUp.{is_grant}
 use Rattle.model.proofs.Checks.{one}
 use Rattle.model.proofs.Discovers.{discovers_disc, not_exhausted}
 use Rattle.model.proofs.Weights.{count, weigh_out, weigh_wait}
@@ -40,7 +40,7 @@ use Rattle.model.proofs.SetUpWeights.{waits, uses, space, carries, active, due, 
 -- the effect f of an item i of the session s keeps the balance
 pub record Law (s : Session) (i : Item) (f : Effect) : Type 0 where
   pub wants : Wanted i f.wait
-  pub writes : written_count f.outcome ≤ 1 + count is_pending i
+  pub writes : written_count f.outcome ≤ 2
   pub waits : (v : Wait) → weigh_out (uses v) f.outcome + weigh_wait (waits v) f.wait ≤ uses v i + weigh_out (waits v) f.outcome
   pub places : weigh_out space f.outcome + spare (stage_after s.stage f.outcome) ≤ space i + weigh_wait space f.wait + spare s.stage
   pub tags : weigh_out carries f.outcome ≤ carries i
@@ -137,7 +137,6 @@ ack_law s a e =
 
 pub rule_law : (n : Network) (standing : ℕ → ℕ → Bool) (t : Part) (i : Item) → Law t.session i (rule n standing t i)
 unfolding uses space carries active due rule est_rule
-rule_law n standing t Free = omega arith
 rule_law n standing t (Wire a p) = wire_law (is_gateway n a) (next_hop n a) t.session a p
 rule_law n standing t (Out a p) = out_law t.session (held t) a p
 rule_law n standing t (Up a p) = up_law standing t.session (held t) a p

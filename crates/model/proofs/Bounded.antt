@@ -6,7 +6,7 @@ use mathlib.Core.Option.{Option, none, some}
 use Prim.Native.Nat.{ℕ, ◌+◌, ◌≤◌}
 use native.Mathlib.Omega.{arith}
 use lib.Dec.{ltb}
-use borrow.Author.Tests.{eqb-false, leb-false, not-false}
+use borrow.Author.Tests.{eqb-false, not-false}
 use Rattle.calculus.proofs.Tests.{Way, is, isnt, way, never, neither, not_so, either}
 use Rattle.calculus.specs.Number.{within, is_node, is_destination, is_session, is_item, is_establishment, is_tag}
 use Rattle.calculus.specs.declared.network.Network.{Network}
@@ -19,18 +19,17 @@ use Rattle.forms.specs.declared.read.Reading.{Reading}
 use Rattle.forms.specs.Text.{Form, node, route, «open», step, send, close, show, net, take_down}
 use Rattle.forms.specs.Read.{read}
 use Rattle.forms.specs.Request.{rising, asked}
-use Rattle.model.specs.Lists.{place}
 use Rattle.model.specs.Network.{is_gateway}
 use Rattle.model.specs.Packet.{hop_limit, bare}
 use Rattle.model.specs.Row.{held, is_other, are_nodes}
 use Rattle.model.specs.Rules.{rule}
-use Rattle.model.specs.State.{fresh, load, is_numbered}
-use Rattle.model.specs.Requests.{Move, refuse, unused, next_number, opening, open_move, stepped, step_at, step_move, sending, send_move, closing, close_move, dropping, drop_move}
+use Rattle.model.specs.State.{fresh, load, found_item}
+use Rattle.model.specs.Requests.{Move, refuse, unused, next_number, opening, open_move, stepped, step_move, sending, send_move, closing, close_move, dropping, drop_move}
 use Rattle.model.specs.Calls.{Call, call, is_accepted, after, is_own, gives_network}
-use Rattle.model.specs.SetUp.{is_set_up_item, item_at}
-use Rattle.model.specs.Termination.{ceiling, form_count, call_count, set_up_steps}
+use Rattle.model.specs.Termination.{ceiling, is_counted, form_count, call_count, set_up_steps}
 use Rattle.model.proofs.Checks.{checked_either}
 use Rattle.model.proofs.Lists.{all_those}
+use Rattle.model.proofs.Steps.{step_either}
 use Rattle.model.proofs.Parts.{Numbered}
 use Rattle.model.proofs.Moves.{held_dropping}
 use Rattle.model.proofs.Asked.{not_own}
@@ -48,22 +47,20 @@ use Rattle.model.proofs.Refusals.{outcome_answers}
 -- an unused session has no rows, and no item that is tracked
 unused_tracked : (network : Network) (t : Part) → Sane t → unused t ≡ true → (n : ℕ) → n ≤ ceiling → Tracked network t n
 unused_tracked network t h u n few =
-    record { few = few; items = all_unused (Tracks network _ _ _ n) (λ o. never o) t h u; rows = rw (h.idle u).0 tt }
+    record { few = few; items = all_unused (Tracks network _ _ _ n) t h u; rows = rw (h.idle u).0 tt }
 
 -- the part that is seen has the count m, or n where the call is refused
 abbrev Counts : Network → ℕ → ℕ → Seen → Type 0
 Counts network n m x = Tracked network x.part (cond (is_accepted x.refusal) m n)
 
 module _ (network : Network) (t : Part) (h : Sane t) (n : ℕ) (k : Tracked network t n) where
-  counts_step : (i : ℕ) → Counts network n (cond (is_set_up_item (item_at t.items (place (is_numbered i) t.items))) (n + 1) n) (seen_move t (step_move network are_nodes i t))
-  unfolding step_move step_at stepped
+  counts_step : (i : ℕ) → Counts network n (cond (is_counted (found_item i t.items)) (n + 1) n) (seen_move t (step_move network are_nodes i t))
+  unfolding stepped
   counts_step i =
-      let at = place (is_numbered i) t.items in
-      let item = item_at t.items at in
-      checked_either (λ (m : Move). Counts network n (cond (is_set_up_item item) (n + 1) n) (seen_move t m)) refuse (λ r. k) _
-      (λ e.
-      rw (outcome_answers t.session.last.0 (rule network are_nodes t item).outcome)
-      (step_tracked network t h n k at (leb-false 16 at e.1.0) e.1.1.0))
+      step_either network are_nodes i t (λ o m. Counts network n (cond (is_counted o) (n + 1) n) (seen_move t m)) (λ o r. k)
+      (λ at s e p.
+      rw (outcome_answers t.session.last.0 (rule network are_nodes t s.item).outcome)
+      (step_tracked network t h n k at s e p.waits))
 
   -- the first Disc is on its way to the first point
   tracked_opening : (c d : ℕ) → unused t ≡ true → Ends network c d → Tracked network (opening t c d) 0
@@ -82,7 +79,7 @@ module _ (network : Network) (t : Part) (h : Sane t) (n : ℕ) (k : Tracked netw
       }) in
       record {
         few = omega arith;
-        items = all_put P t.items (next_number t) (Wire c (bare c d (Disc c))) (all_unused P (λ e. never e) t h u) (λ e. (o, rw i.1 first));
+        items = all_put P t.items (next_number t) (Wire c (bare c d (Disc c))) (all_unused P t h u) (λ e. (o, rw i.1 first));
         rows = rw i.0 tt;
       }
 

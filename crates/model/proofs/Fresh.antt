@@ -5,14 +5,20 @@ use Prim.Native.Nat.{ℕ, ◌+◌, ◌-◌, ◌*◌, ◌≤◌}
 use native.Mathlib.Omega.{arith}
 use lib.ListN.{take, drop, replicate, length-replicate, get_or-replicate}
 use lib.Seq.{ext_get_or, get_or-take, get_or-drop}
+use Rattle.std.specs.Prelude.{Option, None}
+use Rattle.calculus.specs.declared.packet.Slot.{Slot}
 use Rattle.model.specs.Lists.{up_from}
 use Rattle.model.specs.Row.{how_many, users_place, are_nodes, users_of}
-use Rattle.model.specs.State.{blank_slot, blank_row, blank_session, fresh, load}
+use Rattle.model.specs.State.{blank_row, blank_session, fresh, load}
 use Rattle.model.specs.Noninterference.{rows_naming}
 use Rattle.model.proofs.Parts.{part_length, Numbered}
 use Rattle.model.proofs.Roomy.{emptied}
 use Rattle.model.proofs.Places.{place_below}
 use Rattle.model.proofs.Counted.{Good}
+
+-- an empty place
+abbrev nothing : Option Slot
+nothing = None
 
 part_blank : {A : Type 0} (x : A) (b n m : ℕ) → b + n ≤ m → take n (drop b (replicate m x)) ≡ replicate n x
 part_blank x b n m h =
@@ -26,7 +32,7 @@ unfolding load
 load_fresh u hu =
     rw (
       get_or-replicate 8 (u - 1) blank_session blank_session (omega arith),
-      part_blank blank_slot (16 * (u - 1)) 16 128 (omega arith),
+      part_blank nothing (16 * (u - 1)) 16 128 (omega arith),
       part_blank blank_row (32 * (u - 1)) 32 256 (omega arith),
     )
 
@@ -41,6 +47,6 @@ no_rows out a q = refl
 pub fresh_good : Good fresh
 fresh_good =
     record {
-      sized = omega (arith, length-replicate 128 blank_slot, length-replicate 256 blank_row, length-replicate {A = ℕ} 2048 0);
+      sized = omega (arith, length-replicate 128 nothing, length-replicate 256 blank_row, length-replicate {A = ℕ} 2048 0);
       counted = λ out a q h. no_users out a q h ∙ sym (no_rows out a q);
     }

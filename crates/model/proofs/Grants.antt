@@ -8,11 +8,11 @@ use native.Mathlib.Omega.{arith}
 use native.Mathlib.Decide.{ℕ_discrete}
 use lib.Dec.{ltb}
 use lib.ListN.{length, replicate, length-append}
-use borrow.Author.Tests.{eq-eqb, leb-false}
+use borrow.Author.Tests.{eq-eqb}
 use Rattle.calculus.proofs.Tests.{either}
 use Rattle.calculus.specs.declared.network.Network.{Network}
 use Rattle.calculus.specs.declared.packet.Item.{Item}
-use Rattle.calculus.specs.declared.packet.Item.TheVariants.{Free, Wire, Out, Up, Est, Auth, Grant, Ack, Dwait, Ewait}
+use Rattle.calculus.specs.declared.packet.Item.TheVariants.{Wire, Out, Up, Est, Auth, Grant, Ack, Dwait, Ewait}
 use Rattle.calculus.specs.declared.packet.Side.{Side}
 use Rattle.calculus.specs.declared.packet.Side.TheVariants.{Responder, Initiator}
 use Rattle.calculus.specs.declared.request.Request as request
@@ -26,20 +26,21 @@ use Rattle.forms.specs.declared.read.Reading.{Reading}
 use Rattle.forms.specs.Text.{Form}
 use Rattle.forms.specs.Read.{read}
 use Rattle.forms.specs.Request.{asked}
-use Rattle.model.specs.Lists.{place, All}
+use Rattle.model.specs.Lists.{All}
 use Rattle.model.specs.Row.{held, is_of, stands}
 use Rattle.model.specs.Rules.{grant_rule, rule}
-use Rattle.model.specs.State.{load, store, is_numbered, added_rows, applied}
-use Rattle.model.specs.Requests.{changed, refused, node_turn, route_turn, Move, refuse, moved, opening, open_move, stepped, step_at, step_move, sending, send_move, close_move, drop_move, performed}
+use Rattle.model.specs.State.{load, store, found_item, added_rows, applied}
+use Rattle.model.specs.Requests.{changed, refused, node_turn, route_turn, Move, refuse, moved, opening, open_move, stepped, step_move, sending, send_move, close_move, drop_move, performed}
 use Rattle.model.specs.Calls.{Reply, Call, call, is_accepted, after, answered, requested, replied_to, one_answer}
-use Rattle.model.specs.SetUp.{is_grant, item_at}
-use Rattle.model.specs.Drop.{Event, granted, removed, step_events, request_events, line_events, call_events, events}
+use Rattle.model.specs.SetUp.{is_grant}
+use Rattle.model.specs.Drop.{Event, granted, removed, step_events, found_events, request_events, line_events, call_events, events}
 use Rattle.model.proofs.Checks.{checked_either}
 use Rattle.model.proofs.Lists.{all_append}
 use Rattle.model.proofs.Parts.{Numbered}
 use Rattle.model.proofs.Moves.{none_added, FairMove}
 use Rattle.model.proofs.Weights.{count}
 use Rattle.model.proofs.Balance.{rule_law}
+use Rattle.model.proofs.Steps.{step_either}
 use Rattle.model.proofs.Sane.{Sane}
 use Rattle.model.proofs.Asked.{session_in, move_in, requested_own, Meaning, refuses, gives_node, gives_route, of_session, shows, gives_back, meaning}
 use Rattle.model.proofs.Counted.{stored_own, stored_others}
@@ -88,7 +89,6 @@ module _ (t : Part) (h : Sane t) (n : Network) (standing : ℕ → ℕ → Bool)
   item_rows : (t' : Part) (i : Item) → length (added_rows (rule n standing t i).added) ≤ 2 * count is_grant i
       → held t' ≡ held t ++ added_rows (rule n standing t i).added → RowsBy u t t' (step_events u i)
   unfolding rule
-  item_rows t' Free k w = no_row t' Free k w
   item_rows t' (Wire a p) k w = no_row t' (Wire a p) k w
   item_rows t' (Out a p) k w = no_row t' (Out a p) k w
   item_rows t' (Up a p) k w = no_row t' (Up a p) k w
@@ -101,15 +101,13 @@ module _ (t : Part) (h : Sane t) (n : Network) (standing : ℕ → ℕ → Bool)
   item_rows t' (Dwait a) k w = no_row t' (Dwait a) k w
   item_rows t' (Ewait a e) k w = no_row t' (Ewait a e) k w
 
-  step_rows : (k : ℕ) → MoveRows u t (step_move n standing k t) (step_events u (item_at t.items (place (is_numbered k) t.items)))
-  unfolding step_move step_at stepped
+  step_rows : (k : ℕ) → MoveRows u t (step_move n standing k t) (found_events u (found_item k t.items))
+  unfolding stepped
   step_rows k =
-      let at = place (is_numbered k) t.items in
-      let i = item_at t.items at in
-      checked_either (λ (m : Move). MoveRows u t m (step_events u i)) refuse (λ r. tt) _
-      (λ e.
-      item_rows (applied t at (rule n standing t i)) i (rule_law n standing t i).adds
-      (step_finds_places t h.roomy n standing at (leb-false 16 at e.1.0) e.1.1.0).rows)
+      step_either n standing k t (λ o m. MoveRows u t m (found_events u o)) (λ o r. tt)
+      (λ at s e p.
+      item_rows (applied t at (rule n standing t s.item)) s.item (rule_law n standing t s.item).adds
+      (step_finds_places t h.roomy n standing at s e p.waits).rows)
 
 -- ---- the rows that a call leaves
 

@@ -7,6 +7,7 @@ pub mod Parts
 pub mod Places
 pub mod Users
 pub mod Weights
+pub mod Steps
 pub mod Moves
 pub mod SetUpWeights
 pub mod Discovers

@@ -7,8 +7,11 @@ use Prim.Native.Nat.{ℕ, zero, suc, ◌+◌, ◌≤◌, ◌<◌}
 use native.Mathlib.Nat.{zero-add, add-zero}
 use native.Mathlib.Omega.{arith}
 use lib.ListN.{length, get_or, set, take, drop, replicate, length-append, length-take}
+use borrow.Author.Tests.{lt-ltb}
+use Rattle.std.specs.Prelude.{Some, position}
+use Rattle.std.specs.List.{position_or_len}
 use Rattle.calculus.proofs.Tests.{either}
-use Rattle.model.specs.Lists.{place, tally, those, All, up_from}
+use Rattle.model.specs.Lists.{tally, those, All, up_from}
 use Rattle.model.proofs.Checks.{one}
 use lib.Seq.{sets, sets-eq, take_at, length-take-le}
 
@@ -146,14 +149,31 @@ module _ {A : Type 0} (f : A → Bool) (d : A) where
   tally_at (x ∷ l) (suc at) h e = omega (arith, tally_at l at (omega arith) e)
 
   -- the only one is the first
-  pub place_once : (l : List A) (at : ℕ) → at < length l → f (get_or l at d) ≡ true → tally f l ≤ 1 → place f l ≡ at
-  place_once [] at h e k = absurd (omega arith)
-  place_once (x ∷ l) zero h e k = rw e
-  place_once (x ∷ l) (suc at) h e k = go (f x) k (place_once l at (omega arith) e)
+  first_once : (l : List A) (at : ℕ) → at < length l → f (get_or l at d) ≡ true → tally f l ≤ 1 → position_or_len f l ≡ at
+  first_once [] at h e k = absurd (omega arith)
+  first_once (x ∷ l) zero h e k = rw e
+  first_once (x ∷ l) (suc at) h e k = go (f x) k (first_once l at (omega arith) e)
     where
-      go : (b : Bool) → one b + tally f l ≤ 1 → (tally f l ≤ 1 → place f l ≡ at) → cond b 0 (suc (place f l)) ≡ suc at
+      go : (b : Bool) → one b + tally f l ≤ 1 → (tally f l ≤ 1 → position_or_len f l ≡ at) → cond (not b) (1 + position_or_len f l) 0 ≡ suc at
       go true m g = absurd (omega (arith, tally_at l at (omega arith) e))
-      go false m g = ap suc (g (omega arith))
+      go false m g = omega (arith, g (omega arith))
+
+  pub position_once : (l : List A) (at : ℕ) → at < length l → f (get_or l at d) ≡ true → tally f l ≤ 1 → position f l ≡ Some at
+  position_once l at h e k = rw (first_once l at h e k, lt-ltb at (length l) h)
+
+-- where there is one, the first is found
+module _ {A : Type 0} (f : A → Bool) where
+  pub first_below : (l : List A) → 1 ≤ tally f l → position_or_len f l < length l
+  first_below [] h = absurd (omega arith)
+  first_below (x ∷ l) h = go (f x) h (first_below l)
+    where
+      go : (b : Bool) → 1 ≤ one b + tally f l → (1 ≤ tally f l → position_or_len f l < length l)
+          → cond (not b) (1 + position_or_len f l) 0 < suc (length l)
+      go true k g = omega arith
+      go false k g = omega (arith, g (omega arith))
+
+  pub found : (l : List A) → 1 ≤ tally f l → position f l ≡ Some (position_or_len f l)
+  found l h = rw (lt-ltb (position_or_len f l) (length l) (first_below l h))
 
 -- ---- numbers that rise
 

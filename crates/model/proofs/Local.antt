@@ -8,6 +8,7 @@ use native.Mathlib.Omega.{arith}
 use lib.Dec.{ltb}
 use borrow.Author.Tests.{lt-ltb, eqb-true}
 use Rattle.std.specs.Prelude as prelude
+use Rattle.std.specs.Prelude as std
 use Rattle.calculus.proofs.Tests.{never}
 use Rattle.calculus.specs.declared.answer.Answer.TheVariants.{No}
 use Rattle.calculus.specs.declared.answer.Refusal.{Refusal}
@@ -15,7 +16,8 @@ use Rattle.calculus.specs.declared.answer.Refusal.TheVariants.{Range, Short}
 use Rattle.calculus.specs.declared.network.Network.{Network}
 use Rattle.calculus.specs.declared.packet.Header.{Header}
 use Rattle.calculus.specs.declared.packet.Item.{Item}
-use Rattle.calculus.specs.declared.packet.Item.TheVariants.{Free, Wire, Out, Up, Est, Auth, Grant, Ack, Dwait, Ewait}
+use Rattle.calculus.specs.declared.packet.Item.TheVariants.{Wire, Out, Up, Est, Auth, Grant, Ack, Dwait, Ewait}
+use Rattle.calculus.specs.declared.packet.Slot.{Slot}
 use Rattle.calculus.specs.declared.request.Request as request
 use Rattle.calculus.specs.declared.request.Request.TheVariants.{Node, Route, Open, Step, Send, Close, Show, Net, Drop}
 use Rattle.calculus.specs.declared.state.Part.{Part}
@@ -55,7 +57,6 @@ module _ (n : Network) (standing : ℕ → ℕ → Bool) (t : Part) (h : (a q : 
 
   rule_same : (i : Item) → rule n standing t i ≡ rule n are_nodes t i
   unfolding rule up_rule
-  rule_same Free = refl
   rule_same (Wire a p) = refl
   rule_same (Out a p) = refl
   rule_same (Up a p) = rw (admitted_same a p.header)
@@ -66,12 +67,17 @@ module _ (n : Network) (standing : ℕ → ℕ → Bool) (t : Part) (h : (a q : 
   rule_same (Dwait a) = refl
   rule_same (Ewait a e) = refl
 
+  step_same : (o : std.Option (ℕ × Slot)) → step_at n standing t o ≡ step_at n are_nodes t o
+  unfolding step_at
+  step_same std.None = refl
+  step_same (std.Some (at, s)) = simp rule_same
+
   move_same : (q : request.Request) → own_move n standing q t ≡ own_move n are_nodes q t
-  unfolding step_move step_at
+  unfolding step_move
   move_same (Node a k) = refl
   move_same (Route a b next) = refl
   move_same (Open u c d) = refl
-  move_same (Step u k) = simp rule_same
+  move_same (Step u k) = step_same _
   move_same (Send u w tag) = refl
   move_same (Close u) = refl
   move_same Show = refl

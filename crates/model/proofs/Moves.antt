@@ -20,8 +20,9 @@ use Rattle.calculus.specs.declared.state.Part.{Part}
 use Rattle.model.specs.Lists.{those}
 use Rattle.model.specs.Row.{held, is_of, is_other, how_many}
 use Rattle.model.specs.State.{placed, added_rows, session_after, applied}
-use Rattle.model.specs.Requests.{Change, Move, refuse, moved, no_rows, unused, next_number, with_item, opening, open_move, stepped, step_at, step_move, sending, send_move, closing, close_move, dropping, drop_move}
+use Rattle.model.specs.Requests.{Change, Move, refuse, moved, no_rows, unused, next_number, with_item, opening, open_move, stepped, step_move, sending, send_move, closing, close_move, dropping, drop_move}
 use Rattle.model.proofs.Checks.{checked_either}
+use Rattle.model.proofs.Steps.{step_either}
 use Rattle.model.proofs.Parts.{Whole}
 use Rattle.model.proofs.Lists.{take_sets, take_those}
 use Rattle.model.proofs.Users.{many_append, many_split}
@@ -99,8 +100,7 @@ module _ (t : Part) (h : Whole t) where
       }
 
   pub fair_step : (n : Network) (standing : ℕ → ℕ → Bool) (k : ℕ) → FairMove t (step_move n standing k t)
-  unfolding step_move step_at
-  fair_step n standing k = checked_either (FairMove t) refuse (λ r. tt) _ (λ e. fair_stepped e.0 _ _)
+  fair_step n standing k = step_either n standing k t (λ o. FairMove t) (λ o r. tt) (λ at s e p. fair_stepped p.used at _)
 
   fair_item : (g : Stage) (c d : ℕ) (i : Item) (opens : Bool) → (opens ≡ false → unused t ≡ false) → Fair t (with_item t g c d i) (no_rows opens)
   unfolding how_many

@@ -22,7 +22,7 @@ use Rattle.calculus.specs.declared.packet.Packet.{Packet}
 use Rattle.calculus.specs.declared.packet.Side.{Side}
 use Rattle.calculus.specs.declared.packet.Side.TheVariants.{Responder, Initiator}
 use Rattle.calculus.specs.declared.packet.Item.{Item}
-use Rattle.calculus.specs.declared.packet.Item.TheVariants.{Free, Wire, Out, Up, Est, Auth, Grant, Ack, Dwait, Ewait}
+use Rattle.calculus.specs.declared.packet.Item.TheVariants.{Wire, Out, Up, Est, Auth, Grant, Ack, Dwait, Ewait}
 use Rattle.calculus.specs.declared.session.Peers.{Peers}
 use Rattle.calculus.specs.declared.session.Row.{Row}
 use Rattle.calculus.specs.declared.session.Session.{Session}
@@ -52,7 +52,6 @@ abbrev NoDisc : Payload → Type 0
 NoDisc y = is_disc y ≡ false
 
 abbrev pub Named : ℕ → Item → Type 0
-Named v Free = Unit
 Named v (Wire a p) = Node a × PacketNamed p × DiscNamed v p.payload p.destination p.header
 Named v (Out a p) = Node a × PacketNamed p × NoDisc p.payload × (is_none p.header ≡ true)
 Named v (Up a p) = Node a × PacketNamed p × NoDisc p.payload
@@ -180,7 +179,6 @@ module _ (n : Network) (hn : Consistent n) (standing : ℕ → ℕ → Bool) (t 
   pub rule_named : Node t.session.client → Node t.session.server → (i : Item) → Named t.session.server i
       → EffectNamed t.session.server (rule n standing t i)
   unfolding rule est_rule auth_rule
-  rule_named c d Free o = (tt, tt)
   rule_named c d (Wire a p) o = wire_named n t.session a p (hop_given n hn a (target p)) o
   rule_named c d (Out a p) o = out_named t.session.server (held t) a p o
   rule_named c d (Up a p) o = up_named t.session.server standing (held t) a p o

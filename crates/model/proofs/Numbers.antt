@@ -18,10 +18,11 @@ use Rattle.forms.specs.Request.{asked}
 use Rattle.model.specs.Lists.{up_from}
 use Rattle.model.specs.Row.{are_nodes}
 use Rattle.model.specs.State.{answer_of, written_count, applied, session_after}
-use Rattle.model.specs.Requests.{Move, refuse, opening, open_move, stepped, step_at, step_move, sending, send_move, closing, close_move, dropping, drop_move}
+use Rattle.model.specs.Requests.{Move, refuse, opening, open_move, stepped, sending, send_move, closing, close_move, dropping, drop_move}
 use Rattle.model.specs.Calls.{Call}
 use Rattle.model.specs.Noninterference.{numbers_in, numbers_in_lines}
 use Rattle.model.proofs.Checks.{checked_either}
+use Rattle.model.proofs.Steps.{step_either}
 use Rattle.model.proofs.Asked.{own_move, own_cases}
 use Rattle.model.proofs.Local.{Seen, seen_move, seen_parsed, local}
 
@@ -58,11 +59,11 @@ module _ (t : Part) where
   step_issues at f = record { many = written_count f.outcome; last = refl; carried = answer_numbers t.session.last.0 f.outcome }
 
   move_issues : (n : Network) (q : request.Request) → IssuesMove t (own_move n are_nodes q t)
-  unfolding open_move opening step_move step_at send_move sending close_move closing drop_move dropping up_from
+  unfolding open_move opening send_move sending close_move closing drop_move dropping up_from
   move_issues n q =
       own_cases (IssuesMove t) n are_nodes q t (issued_none t)
       (λ c d. checked_either (IssuesMove t) refuse (λ r. issued_none t) _ (λ e. record { many = 1; last = refl; carried = refl }))
-      (λ k. checked_either (IssuesMove t) refuse (λ r. issued_none t) _ (λ e. step_issues _ _))
+      (λ k. step_either n are_nodes k t (λ o. IssuesMove t) (λ o r. issued_none t) (λ at s e p. step_issues at _))
       (λ w tag. checked_either (IssuesMove t) refuse (λ r. issued_none t) _ (λ e. record { many = 1; last = refl; carried = refl }))
       (checked_either (IssuesMove t) refuse (λ r. issued_none t) _ (λ e. record { many = 0; last = omega arith; carried = refl }))
       (λ e. checked_either (IssuesMove t) refuse (λ r. issued_none t) _ (λ k. record { many = 0; last = omega arith; carried = refl }))

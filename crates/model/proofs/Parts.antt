@@ -7,9 +7,10 @@ use native.Mathlib.Omega.{arith}
 use native.Mathlib.Decide.{dec_lt}
 use lib.ListN.{length, get_or, take, drop, length-take, length-drop, length-set, get_or-append}
 use lib.Seq.{paste, length-paste, length_paste_head, drop-paste, get_or-take, get_or-drop, get_or-append-add, length-take-le, ext_get_or, get_or-set_same, get_or-set_other}
+use Rattle.std.specs.Prelude.{None}
 use Rattle.calculus.specs.declared.state.Part.{Part}
 use Rattle.calculus.specs.declared.state.State.{State}
-use Rattle.model.specs.State.{load, store, blank_slot, blank_row, blank_session}
+use Rattle.model.specs.State.{load, store, blank_row, blank_session}
 
 pub part_length : {A : Type 0} (n a : ℕ) (l : List A) → a + n ≤ length l → length (take n (drop a l)) ≡ n
 part_length n a l h = simp (length-take, length-drop) (omega arith)
@@ -102,7 +103,7 @@ module _ (s : State) (hs : Sized s) where
     load_stored u hu =
         simp (
           get_or-set_same s.sessions (u - 1) t.session blank_session (omega arith),
-          part_same s.items (16 * (u - 1)) t.items 16 blank_slot (omega arith) ht.items,
+          part_same s.items (16 * (u - 1)) t.items 16 None (omega arith) ht.items,
           part_same s.rows (32 * (u - 1)) t.rows 32 blank_row (omega arith) ht.rows,
         )
 
@@ -115,7 +116,7 @@ module _ (s : State) (hs : Sized s) where
         beside p q =
             simp (
               get_or-set_other s.sessions (v - 1) (u - 1) t.session blank_session (omega arith),
-              part_other s.items (16 * (v - 1)) t.items 16 blank_slot (omega arith) ht.items (16 * (u - 1)) (omega arith) p,
+              part_other s.items (16 * (v - 1)) t.items 16 None (omega arith) ht.items (16 * (u - 1)) (omega arith) p,
               part_other s.rows (32 * (v - 1)) t.rows 32 blank_row (omega arith) ht.rows (32 * (u - 1)) (omega arith) q,
             )
 

@@ -1,6 +1,6 @@
 -- No two pending items have one number, and each has one that was issued. Assumes nothing.
 use mathlib.Core.Path.{◌≡◌}
-use mathlib.Core.Bool.{Bool, true, false, not, ◌&&◌}
+use mathlib.Core.Bool.{Bool, true, false}
 use mathlib.Core.List.{List, [], ◌∷◌}
 use Prim.Native.Nat.{ℕ, zero, suc, ◌+◌, ◌≤◌}
 use native.Mathlib.Nat.{add-zero}
@@ -9,7 +9,7 @@ use native.Mathlib.Decide.{ℕ_discrete}
 use lib.Dec.{eqb}
 use lib.ListN.{set}
 use borrow.Author.Tests.{le-leb, lt-leb, eq-eqb, ne_eqb}
-use Rattle.std.specs.Prelude.{Option, Some, None}
+use Rattle.std.specs.Prelude.{Option, Some, None, position}
 use Rattle.calculus.specs.Number.{within}
 use Rattle.calculus.proofs.Tests.{within_bounds, either}
 use Rattle.calculus.specs.declared.effect.Outcome.{Outcome}
@@ -20,9 +20,9 @@ use Rattle.calculus.specs.declared.packet.Item.{Item}
 use Rattle.calculus.specs.declared.packet.Slot.{Slot}
 use Rattle.calculus.specs.declared.session.Stage.{Stage}
 use Rattle.calculus.specs.declared.state.Part.{Part}
-use Rattle.model.specs.Lists.{place, tally}
-use Rattle.model.specs.Item.{is_free, is_that_wait, vacant}
-use Rattle.model.specs.State.{blank_slot, is_numbered, use_up, put_item, written, written_count, items_after, session_after, applied}
+use Rattle.model.specs.Lists.{tally}
+use Rattle.model.specs.Item.{is_that_wait, of_item}
+use Rattle.model.specs.State.{is_numbered, set_found, use_up, put_item, written, written_count, items_after, session_after, applied}
 use Rattle.model.specs.Requests.{with_item}
 use Rattle.model.proofs.Checks.{one, one_le}
 
@@ -36,32 +36,27 @@ tally_set f [] i x = omega arith
 tally_set f (y ∷ l) zero x = omega (arith, one_le (f y))
 tally_set f (y ∷ l) (suc i) x = omega (arith, tally_set f l i x)
 
+tally_found : {A : Type 0} (f : A → Bool) (l : List A) (o : Option ℕ) (x : A) → tally f (set_found l o x) ≤ tally f l + one (f x)
+tally_found f l None x = omega arith
+tally_found f l (Some i) x = tally_set f l i x
+
 module _ (k : ℕ) where
-  abbrev times : List Slot → ℕ
+  abbrev times : List (Option Slot) → ℕ
   times l = tally (is_numbered k) l
 
-  put_once : (l : List Slot) (n : ℕ) (i : Item) → times (put_item l n i) ≤ times l + one (eqb n k)
+  put_once : (l : List (Option Slot)) (n : ℕ) (i : Item) → times (put_item l n i) ≤ times l + one (eqb n k)
   unfolding put_item
-  put_once l n i =
-      omega (
-        arith,
-        tally_set (is_numbered k) l (place vacant l) (record { number = record { 0 = n }; item = i }),
-        pending (not (is_free i)) (eqb n k),
-      )
-    where
-      pending : (a b : Bool) → one (a && b) ≤ one b
-      pending true b = omega arith
-      pending false b = omega arith
+  put_once l n i = tally_found (is_numbered k) l _ _
 
-  gone_once : (l : List Slot) (at : ℕ) (w : Option Wait) → times (use_up (set l at blank_slot) w) ≤ times l
+  gone_once : (l : List (Option Slot)) (at : ℕ) (w : Option Wait) → times (use_up (set l at None) w) ≤ times l
   unfolding use_up
-  gone_once l at None = omega (arith, tally_set (is_numbered k) l at blank_slot)
+  gone_once l at None = omega (arith, tally_set (is_numbered k) l at None)
   gone_once l at (Some w) =
-      let rest = set l at blank_slot in
+      let rest : List (Option Slot) = set l at None in
       omega (
         arith,
-        tally_set (is_numbered k) rest (place (λ (s : Slot). is_that_wait w s.item) rest) blank_slot,
-        tally_set (is_numbered k) l at blank_slot,
+        tally_found (is_numbered k) rest (position (of_item (is_that_wait w)) rest) None,
+        tally_set (is_numbered k) l at None,
       )
 
   -- the next number was not issued before
@@ -78,7 +73,7 @@ module _ (k : ℕ) where
           rw (le-leb 1 k b.0, le-leb k (n + 1) (omega (arith, b))) (omega arith))
           (λ h. omega arith))
 
-  written_once : (l : List Slot) (n : ℕ) (o : Outcome) → times l ≤ one (within 1 n k) → times (written l n o) ≤ one (within 1 (n + written_count o) k)
+  written_once : (l : List (Option Slot)) (n : ℕ) (o : Outcome) → times l ≤ one (within 1 n k) → times (written l n o) ≤ one (within 1 (n + written_count o) k)
   written_once l n (Wrote i) h = omega (arith, put_once l (n + 1) i, next_once n)
   written_once l n (WroteByDefault i) h = omega (arith, put_once l (n + 1) i, next_once n)
   written_once l n (WroteTwo i j) h =
@@ -98,7 +93,7 @@ module _ (t : Part) (h : Distinct t) where
   distinct_step at f =
       record {
         once = λ k.
-            written_once k (use_up (set t.items at blank_slot) f.wait) t.session.last.0 f.outcome
+            written_once k (use_up (set t.items at None) f.wait) t.session.last.0 f.outcome
             (omega (arith, gone_once k t.items at f.wait, h.once k));
       }
 

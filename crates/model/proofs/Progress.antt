@@ -4,41 +4,44 @@ use mathlib.Core.Bool.{Bool, true, false, cond, not}
 use mathlib.Core.Option.{none, some}
 use Prim.Native.Nat.{ℕ, ◌+◌, ◌≤◌, ◌<◌}
 use native.Mathlib.Omega.{arith}
-use lib.ListN.{length, get_or}
-use borrow.Author.Tests.{le-ltb, lt-leb, eq-eqb, not-true}
+use borrow.Author.Tests.{le-ltb, eq-eqb, not-true}
+use Rattle.std.specs.Prelude.{Option, Some, None}
 use Rattle.calculus.proofs.Tests.{both, never, not_so, bounds_within, within_bounds}
 use Rattle.calculus.specs.Number.{within, is_session}
 use Rattle.calculus.specs.declared.network.Network.{Network}
 use Rattle.calculus.specs.declared.packet.Item.{Item}
+use Rattle.calculus.specs.declared.packet.Slot.{Slot}
 use Rattle.calculus.specs.declared.state.Part.{Part}
 use Rattle.calculus.specs.declared.state.State.{State}
 use Rattle.forms.specs.Text.{step, text}
 use Rattle.forms.specs.Read.{read}
 use Rattle.forms.proofs.ReadAgain.{step_read}
-use Rattle.model.specs.Lists.{place, tally}
+use Rattle.model.specs.Lists.{tally}
 use Rattle.model.specs.Row.{are_nodes}
 use Rattle.model.specs.Rules.{rule}
-use Rattle.model.specs.Item.{is_wait}
-use Rattle.model.specs.State.{load, blank_slot, is_numbered}
+use Rattle.model.specs.Item.{is_wait, slot_at}
+use Rattle.model.specs.State.{load, is_numbered, found_item}
 use Rattle.model.specs.Requests.{Move, refuse, unused, spent, stepped, step_at, step_move}
 use Rattle.model.specs.Calls.{answered, roomy_call, form_names}
-use Rattle.model.specs.SetUp.{is_pending, is_set_up_item, item_at}
-use Rattle.model.specs.Termination.{call_count, is_active, form_opens}
+use Rattle.model.specs.SetUp.{is_set_up_item}
+use Rattle.model.specs.Termination.{is_counted, call_count, is_active, form_opens}
 use Rattle.model.proofs.Checks.{one, checked_passed}
-use Rattle.model.proofs.Lists.{all_get, tally_at, place_once}
-use Rattle.model.proofs.Sane.{At, Sane, all_unused}
+use Rattle.model.proofs.Lists.{tally_at}
+use Rattle.model.proofs.Weights.{slot_below}
+use Rattle.model.proofs.Steps.{numbered_once}
+use Rattle.model.proofs.Sane.{Sane, all_at, all_unused}
 use Rattle.model.proofs.Tracked.{Inactive}
 use Rattle.model.proofs.Local.{Seen, seen_move, local, call_own}
 use Rattle.model.proofs.Replies.{numbered}
 use Rattle.model.proofs.Reached.{Sound}
 use Rattle.model.proofs.Refusals.{outcome_answers}
 
-module _ (t : Part) (h : Sane t) (at : ℕ) (b : at < length t.items) (e : is_active (item_at t.items at) ≡ true) where
+module _ (t : Part) (h : Sane t) (at : ℕ) (s : Slot) (b : slot_at t.items at ≡ Some s) (e : is_active s.item ≡ true) where
   abbrev number : ℕ
-  number = (get_or t.items at blank_slot).number.0
+  number = s.number.0
 
   abbrev item : Item
-  item = item_at t.items at
+  item = s.item
 
   set_up_lem : is_set_up_item item ≡ true
   set_up_lem = (both (is_set_up_item item) (not (is_wait item)) e).0
@@ -46,49 +49,47 @@ module _ (t : Part) (h : Sane t) (at : ℕ) (b : at < length t.items) (e : is_ac
   no_wait : is_wait item ≡ false
   no_wait = not-true (is_wait item) (both (is_set_up_item item) (not (is_wait item)) e).1
 
-  is_numbered_lem : is_numbered number (get_or t.items at blank_slot) ≡ true
-  is_numbered_lem = rw ((both (is_pending item) _ set_up_lem).0, eq-eqb number number refl)
+  is_numbered_lem : is_numbered number (Some s) ≡ true
+  is_numbered_lem = eq-eqb number number refl
 
   within_last : within 1 t.session.last.0 number ≡ true
   within_last = go (within 1 t.session.last.0 number) (h.distinct.once number)
     where
       go : (w : Bool) → tally (is_numbered number) t.items ≤ one w → w ≡ true
       go true k = refl
-      go false k = absurd (omega (arith, tally_at (is_numbered number) blank_slot t.items at b is_numbered_lem))
+      go false k = absurd (omega (arith, tally_at (is_numbered number) None t.items at (slot_below t.items at s b) (rw b is_numbered_lem)))
 
   number_bounds : (1 ≤ number) × (number ≤ 1000000)
   number_bounds = let x = within_bounds 1 t.session.last.0 number within_last in (x.0, omega (arith, h.last))
 
-  at_its_place : place (is_numbered number) t.items ≡ at
-  at_its_place =
-      place_once (is_numbered number) blank_slot t.items at b is_numbered_lem (omega (arith, rw within_last at (h.distinct.once number)))
+  at_its_place : found_item number t.items ≡ Some (at, s)
+  at_its_place = numbered_once number t.items at s b is_numbered_lem (omega (arith, rw within_last at (h.distinct.once number)))
 
   in_use : unused t ≡ false
-  in_use = not_so (unused t) (λ w. never (sym (all_get (At Inactive) t.items at blank_slot (all_unused Inactive refl t h w) refl) ∙ e))
+  in_use = not_so (unused t) (λ w. never (sym (all_at Inactive t.items at s b (all_unused Inactive t h w)) ∙ e))
 
   accepted : (net : Network) → spent t ≡ false → (seen_move t (step_move net are_nodes number t)).refusal ≡ none
   unfolding step_move step_at stepped
-  accepted net s =
-      ap (λ (x : ℕ). (seen_move t (step_at net are_nodes t x)).refusal) at_its_place
-      ∙ ap (λ (m : Move). (seen_move t m).refusal)
-      (checked_passed refuse _ _ (in_use, (lt-leb 16 at (omega (arith, h.roomy.whole)), (no_wait, (s, tt)))))
+  accepted net l =
+      ap (λ (x : Option (ℕ × Slot)). (seen_move t (step_at net are_nodes t x)).refusal) at_its_place
+      ∙ ap (λ (m : Move). (seen_move t m).refusal) (checked_passed refuse _ _ (in_use, (no_wait, (l, tt))))
       ∙ outcome_answers t.session.last.0 (rule net are_nodes t item).outcome
 
 -- ---- its call
 
 module _ (s : State) (h : Sound s) (u : ℕ) (q : is_session u ≡ true)
-    (at : ℕ) (b : at < length (load s u).items) (e : is_active (item_at (load s u).items at) ≡ true) where
+    (at : ℕ) (x : Slot) (b : slot_at (load s u).items at ≡ Some x) (e : is_active x.item ≡ true) where
   abbrev t : Part
   t = load s u
 
   abbrev its : ℕ
-  its = (get_or t.items at blank_slot).number.0
+  its = x.number.0
 
   k : Sane t
   k = h.sane u (numbered u q)
 
   bounds : (1 ≤ its) × (its ≤ 1000000)
-  bounds = number_bounds t k at b e
+  bounds = number_bounds t k at x b e
 
   its_line : read (text (step u its)) ≡ some (step u its)
   its_line = step_read u its (within_bounds 1 8 u q).1 bounds.1
@@ -103,10 +104,10 @@ module _ (s : State) (h : Sound s) (u : ℕ) (q : is_session u ≡ true)
   unfolding local
   its_refusal l size big =
       ap (λ (x : Seen). x.refusal) (call_own s h.good u (numbered u q) (record { line = text (step u its); size = size }) its_own)
-      ∙ rw (le-ltb size 65536 big, its_line, q, bounds_within 1 1000000 its bounds.0 bounds.1) (accepted t k at b e s.network l)
+      ∙ rw (le-ltb size 65536 big, its_line, q, bounds_within 1 1000000 its bounds.0 bounds.1) (accepted t k at x b e s.network l)
 
   pub its_count : spent t ≡ false → (n : ℕ) → call_count u s n (roomy_call (text (step u its))) ≡ n + 1
   its_count l n =
       rw (its_own, its_refusal l 65536 (omega arith), its_line)
-      (ap (λ (x : ℕ). cond (is_set_up_item (item_at t.items x)) (n + 1) n) (at_its_place t k at b e)
-      ∙ ap (λ (w : Bool). cond w (n + 1) n) (set_up_lem t k at b e))
+      (ap (λ (o : Option (ℕ × Slot)). cond (is_counted o) (n + 1) n) (at_its_place t k at x b e)
+      ∙ ap (λ (w : Bool). cond w (n + 1) n) (set_up_lem t k at x b e))

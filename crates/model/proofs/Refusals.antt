@@ -4,6 +4,7 @@ use mathlib.Core.Bool.{Bool, false}
 use mathlib.Core.Option.{Option, none, some}
 use Prim.Native.Nat.{ℕ}
 use lib.Dec.{ltb}
+use Rattle.std.specs.Prelude as std
 use Rattle.calculus.proofs.Tests.{either}
 use Rattle.calculus.specs.declared.answer.Refusal.{Refusal}
 use Rattle.calculus.specs.declared.answer.Refusal.TheVariants.{Short}
@@ -11,6 +12,7 @@ use Rattle.calculus.specs.declared.effect.Outcome.{Outcome}
 use Rattle.calculus.specs.declared.effect.Outcome.TheVariants as outcome
 use Rattle.calculus.specs.declared.effect.Effect.{Effect}
 use Rattle.calculus.specs.declared.network.Network.{Network}
+use Rattle.calculus.specs.declared.packet.Slot.{Slot}
 use Rattle.calculus.specs.declared.request.Request as request
 use Rattle.calculus.specs.declared.state.Part.{Part}
 use Rattle.calculus.specs.declared.state.State.{State}
@@ -59,12 +61,18 @@ step_answers : (t : Part) (at : ℕ) (f : Effect) → Answers (stepped t at f)
 unfolding stepped
 step_answers t at f = outcome_answers t.session.last.0 f.outcome
 
+step_at_answers : (n : Network) (standing : ℕ → ℕ → Bool) (t : Part) (o : std.Option (ℕ × Slot)) → Answers (step_at n standing t o)
+unfolding step_at
+step_at_answers n standing t std.None = checked_written Answers refuse (λ r w. w) _ (refl, tt) refl
+step_at_answers n standing t (std.Some (at, s)) =
+    checked_written Answers refuse (λ r w. w) _ (refl, (refl, (refl, tt))) (step_answers t _ _)
+
 pub move_answers : (n : Network) (standing : ℕ → ℕ → Bool) (q : request.Request) (t : Part) → Answers (own_move n standing q t)
-unfolding open_move step_move step_at send_move close_move drop_move
+unfolding open_move step_move send_move close_move drop_move
 move_answers n standing q t =
     own_cases Answers n standing q t refl
     (λ c d. checked_written Answers refuse (λ r w. w) _ (refl, (refl, (refl, (refl, (refl, tt))))) refl)
-    (λ k. checked_written Answers refuse (λ r w. w) _ (refl, (refl, (refl, (refl, tt)))) (step_answers t _ _))
+    (λ k. step_at_answers n standing t _)
     (λ w tag. checked_written Answers refuse (λ r w. w) _ (refl, (refl, (refl, tt))) refl)
     (checked_written Answers refuse (λ r w. w) _ (refl, tt) refl)
     (λ e. checked_written Answers refuse (λ r w. w) _ (refl, (refl, (refl, tt))) refl)

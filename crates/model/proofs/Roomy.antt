@@ -6,25 +6,24 @@ use Prim.Native.Nat.{ℕ, ◌+◌, ◌-◌, ◌*◌, ◌≤◌, ◌<◌}
 use native.Mathlib.Omega.{arith}
 use lib.Dec.{eqb}
 use lib.ListN.{length, set, replicate, length-append}
+use Rattle.std.specs.Prelude.{Option, Some, None}
 use Rattle.calculus.specs.Number.{within}
 use Rattle.calculus.proofs.Tests.{either}
 use Rattle.calculus.specs.declared.effect.Wait.{Wait}
 use Rattle.calculus.specs.declared.effect.Effect.{Effect}
 use Rattle.calculus.specs.declared.packet.Item.{Item}
-use Rattle.calculus.specs.declared.packet.Item.TheVariants.{Free}
 use Rattle.calculus.specs.declared.packet.Slot.{Slot}
 use Rattle.calculus.specs.declared.session.Row.{Row}
 use Rattle.calculus.specs.declared.session.Stage.{Stage}
 use Rattle.calculus.specs.declared.state.Part.{Part}
-use Rattle.model.specs.State.{blank_slot, blank_row, begun_after, added_rows, placed, put_item, session_after, applied}
+use Rattle.model.specs.State.{blank_row, begun_after, added_rows, placed, put_item, session_after, applied}
 use Rattle.model.specs.Lists.{tally, up_from}
-use Rattle.model.specs.Item.{is_wait}
+use Rattle.model.specs.Item.{is_wait, slot_at}
 use Rattle.model.specs.Row.{held, is_of}
 use Rattle.model.specs.Requests.{next_number, with_item, dropping}
-use Rattle.model.specs.SetUp.{is_pending, item_at}
 use Rattle.model.proofs.Checks.{one}
 use Rattle.model.proofs.Parts.{Whole}
-use Rattle.model.proofs.Weights.{count, weigh, weigh_out, weigh_wait, weigh_set, weigh_at, weigh_put, not_that_wait, length_put, ledger}
+use Rattle.model.proofs.Weights.{every, weigh, weigh_out, weigh_wait, weigh_gone, weigh_at, weigh_put, not_that_wait, length_put, ledger}
 use Rattle.model.proofs.Lists.{tally_append, tally_take, tally_each, tally_split}
 use Rattle.model.proofs.Moves.{held_applied, applied_whole, held_dropping, dropping_whole}
 use Rattle.model.proofs.SetUpWeights.{waits, uses, space, carries, active, due, rows_of, begun_of, each, spare, pending, pends, begun_each, begun_once}
@@ -49,7 +48,7 @@ abbrev pub emptied : ℕ → Part
 emptied last =
     record {
       session = record { stage = Stage.Unused; client = 0; server = 0; begun = 0; rows = 0; last = record { 0 = last } };
-      items = replicate 16 blank_slot;
+      items = replicate 16 None;
       rows = replicate 32 blank_row;
     }
 
@@ -75,30 +74,24 @@ module _ (t : Part) (h : Roomy t) where
 
   -- ---- a step
 
-  module _ (at : ℕ) (b : at < 16) (w : is_wait (item_at t.items at) ≡ false) (f : Effect) (law : Law t.session (item_at t.items at) f) where
+  module _ (at : ℕ) (s : Slot) (e : slot_at t.items at ≡ Some s) (w : is_wait s.item ≡ false) (f : Effect) (law : Law t.session s.item f) where
     abbrev item : Item
-    item = item_at t.items at
+    item = s.item
 
-    abbrev rest : List Slot
-    rest = set t.items at blank_slot
+    abbrev rest : List (Option Slot)
+    rest = set t.items at None
 
     -- no wait is gone with the item
     still : (v : Wait) → uses v item ≤ weigh (waits v) rest
     unfolding waits uses
     still v =
-        omega (
-          arith,
-          weigh_at (uses v) refl t.items at,
-          h.waits v,
-          weigh_set (waits v) t.items at blank_slot (omega arith),
-          not_that_wait v item w,
-        )
+        omega (arith, weigh_at (uses v) t.items at s e, h.waits v, weigh_gone (waits v) t.items at s e, not_that_wait v item w)
 
-    pub step_ledger : (x : Item → ℕ) → x Free ≡ 0
+    pub step_ledger : (x : Item → ℕ)
         → weigh x (applied t at f).items + (x item + weigh_wait x f.wait) ≡ weigh x t.items + weigh_out x f.outcome
     unfolding applied
-    step_ledger x z =
-        ledger x z t.items t.session.last.0 at f (omega arith) (pends item rest still f.wait law.wants) (omega (arith, pending t.items))
+    step_ledger x =
+        ledger x t.items t.session.last.0 at s f e (pends item rest still f.wait law.wants) (omega (arith, law.writes, h.whole.items, h.places, h.tags, pending t.items))
 
     -- the rows that are added find a place
     pub rows_fit : length (added_rows f.added) ≤ 32 - t.session.rows
@@ -111,7 +104,7 @@ module _ (t : Part) (h : Roomy t) where
           begun_each t.session.begun,
           begun_each (begun_after t.session.begun f.begins),
           few_rows,
-          weigh_at (due each) refl t.items at,
+          weigh_at (due each) t.items at s e,
           law.begun,
           h.begun,
         )
@@ -127,22 +120,22 @@ module _ (t : Part) (h : Roomy t) where
           waits = λ v.
               omega (
                 arith,
-                step_ledger (uses v) refl,
-                step_ledger (waits v) (not_that_wait v Free refl),
+                step_ledger (uses v),
+                step_ledger (waits v),
                 law.waits v,
                 h.waits v,
                 not_that_wait v item w,
               );
-          places = omega (arith, step_ledger space refl);
-          tags = omega (arith, step_ledger carries refl);
-          actives = omega (arith, step_ledger active refl, law.actives);
+          places = omega (arith, step_ledger space);
+          tags = omega (arith, step_ledger carries);
+          actives = omega (arith, step_ledger active, law.actives);
           begun = omega (arith, law.begun, h.begun);
           counted = rw (held_applied t h.whole at f) (omega (arith, length-append (held t) came, h.counted));
           rows = λ v.
               rw (held_applied t h.whole at f)
               (omega (
                 arith,
-                step_ledger (due v) refl,
+                step_ledger (due v),
                 law.rows v,
                 h.rows v,
                 tally_append (λ r. v r.establishment) (held t) came,
@@ -158,18 +151,17 @@ module _ (t : Part) (h : Roomy t) where
   unfolding waits uses space carries active due
   roomy_item g c d i no-waits no_rows places tags actives =
       let n = next_number t in
-      let room : weigh (count is_pending) t.items < length t.items = omega (arith, pending t.items) in
-      let put : (x : Item → ℕ) → x Free ≡ 0 → weigh x (put_item t.items n i) ≡ weigh x t.items + x i =
-      λ x z. weigh_put x z t.items n i room in
+      let room : weigh every t.items < length t.items = omega (arith, pending t.items) in
+      let put : (x : Item → ℕ) → weigh x (put_item t.items n i) ≡ weigh x t.items + x i = λ x. weigh_put x t.items n i room in
       record {
         whole = record { items = length_put t.items n i ∙ h.whole.items; rows = h.whole.rows };
-        waits = λ v. omega (arith, put (uses v) refl, put (waits v) (not_that_wait v Free refl), h.waits v, no-waits v);
-        places = omega (arith, put space refl);
-        tags = omega (arith, put carries refl);
-        actives = omega (arith, put active refl);
+        waits = λ v. omega (arith, put (uses v), put (waits v), h.waits v, no-waits v);
+        places = omega (arith, put space);
+        tags = omega (arith, put carries);
+        actives = omega (arith, put active);
         begun = h.begun;
         counted = h.counted;
-        rows = λ w. omega (arith, put (due w) refl, no_rows w, h.rows w);
+        rows = λ w. omega (arith, put (due w), no_rows w, h.rows w);
       }
 
   -- ---- a drop

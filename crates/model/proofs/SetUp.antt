@@ -12,19 +12,18 @@ use Rattle.calculus.specs.declared.effect.Outcome.TheVariants.{Wrote, WroteByDef
 use Rattle.calculus.specs.declared.effect.Wait.{Wait}
 use Rattle.calculus.specs.declared.network.Network.{Network}
 use Rattle.calculus.specs.declared.packet.Item.{Item}
-use Rattle.calculus.specs.declared.packet.Item.TheVariants.{Free, Wire, Out, Up, Est, Auth, Grant, Ack, Dwait, Ewait}
+use Rattle.calculus.specs.declared.packet.Item.TheVariants.{Wire, Out, Up, Est, Auth, Grant, Ack, Dwait, Ewait}
 use Rattle.calculus.specs.declared.packet.Slot.{Slot}
 use Rattle.calculus.specs.declared.session.Row.{Row}
 use Rattle.calculus.specs.declared.state.Part.{Part}
 use Rattle.calculus.specs.declared.state.State.{State}
 use Rattle.model.specs.Row.{held, are_nodes, users_of, stands}
 use Rattle.model.specs.Rules.{rule}
-use Rattle.model.specs.Item.{is_free, is_wait, is_data_item, how_many_items}
-use Rattle.model.specs.SetUp.{item_at, is_set_up_item, is_grant, is_disc_off_wire, wait_of, HoldsPacket, items_of, wait_items, FindsPlaces, Holds, SetUps}
+use Rattle.model.specs.Item.{is_wait, is_data_item, how_many_items, slot_at}
+use Rattle.model.specs.SetUp.{is_set_up_item, is_grant, is_disc_off_wire, wait_of, HoldsPacket, items_of, wait_items, FindsPlaces, Holds, SetUps}
 use Rattle.model.specs.State.{fresh, load, put_item, applied}
 use Rattle.model.specs.Calls.{after}
 use Rattle.model.specs.Lists.{tally, All}
-use Rattle.model.proofs.Lists.{all_map, tally_none}
 use Rattle.model.proofs.Weights.{count, counted, weigh_out, weigh_wait, weigh_le, weigh_sum, weigh_at, weigh_put, free_or_pending}
 use Rattle.model.proofs.SetUpWeights.{uses, space, carries, due, each, wanted, pends, set_up_space, pending, grant_due}
 use Rattle.model.proofs.Parts.{Numbered}
@@ -33,13 +32,12 @@ use Rattle.model.proofs.Balance.{rule_law}
 use Rattle.model.proofs.Nodes.{network_holds}
 use Rattle.model.proofs.Roomy.{Roomy, few_rows, rows_each, step_ledger, rows_fit}
 use Rattle.model.proofs.Named.{Named}
-use Rattle.model.proofs.Sane.{At, unused_none}
+use Rattle.model.proofs.Sane.{At, unused_none, items_none, all_items}
 use Rattle.model.proofs.Counted.{Good, users_most}
 use Rattle.model.proofs.Replies.{numbered}
 use Rattle.model.proofs.Reached.{Sound, reached}
 
 disc_on_wire : (v : ℕ) (i : Item) → Named v i → is_disc_off_wire i ≡ false
-disc_on_wire v Free h = refl
 disc_on_wire v (Wire a p) h = refl
 disc_on_wire v (Out a p) h = h.2
 disc_on_wire v (Up a p) h = h.2
@@ -50,9 +48,9 @@ disc_on_wire v (Ack a e) h = refl
 disc_on_wire v (Dwait a) h = refl
 disc_on_wire v (Ewait a e) h = refl
 
-discs_on_wires : (v : ℕ) (l : List Slot) → All (At (Named v)) l → how_many_items is_disc_off_wire l ≡ 0
+discs_on_wires : (v : ℕ) (l : List (Option Slot)) → All (At (Named v)) l → how_many_items is_disc_off_wire l ≡ 0
 discs_on_wires v l h =
-    tally_none (λ s. is_disc_off_wire s.item) l (all_map (At (Named v)) _ (λ s k. disc_on_wire v s.item k) l h)
+    items_none is_disc_off_wire l (all_items (Named v) (λ i. is_disc_off_wire i ≡ false) (disc_on_wire v) l h)
 
 few_users_lem : (s : State) → Good s → (out : Bool) (a q : ℕ) → users_of s.users out a q ≤ 256
 unfolding users_of
@@ -74,39 +72,37 @@ weigh_waits g None = refl
 weigh_waits g (Some v) = omega arith
 
 module _ (t : Part) (h : Roomy t) where
-  put_comes : (n : ℕ) (i : Item) (g : Item → Bool) → g Free ≡ false
+  put_comes : (n : ℕ) (i : Item) (g : Item → Bool)
       → how_many_items g (put_item t.items n i) ≡ how_many_items g t.items + tally g (i ∷ [])
-  put_comes n i g z =
+  put_comes n i g =
       omega (
         arith,
         counted g (put_item t.items n i),
         counted g t.items,
-        weigh_put (count g) (rw z) t.items n i (omega (arith, pending t.items, h.places, h.tags, h.whole.items)),
+        weigh_put (count g) t.items n i (omega (arith, pending t.items, h.places, h.tags, h.whole.items)),
       )
 
-  pub step_finds_places : (n : Network) (standing : ℕ → ℕ → Bool) (at : ℕ) → at < 16 → is_wait (item_at t.items at) ≡ false
-      → FindsPlaces t at (rule n standing t (item_at t.items at))
-  step_finds_places n standing at b w =
-      let i = item_at t.items at in
-      let f = rule n standing t i in
-      let law = rule_law n standing t i in
+  pub step_finds_places : (n : Network) (standing : ℕ → ℕ → Bool) (at : ℕ) (s : Slot) → slot_at t.items at ≡ Some s → is_wait s.item ≡ false
+      → FindsPlaces t at s.item (rule n standing t s.item)
+  step_finds_places n standing at s e w =
+      let f = rule n standing t s.item in
+      let law = rule_law n standing t s.item in
       record {
-        rows = held_applied t h.whole at f ∙ ap (λ (rs : List Row). held t ++ rs) (take_all _ _ (rows_fit t h at b w f law));
-        items = λ g z.
+        rows = held_applied t h.whole at f ∙ ap (λ (rs : List Row). held t ++ rs) (take_all _ _ (rows_fit t h at s e w f law));
+        items = λ g.
             omega (
               arith,
               counted g (applied t at f).items,
               counted g t.items,
               weigh_items g f.outcome,
               weigh_waits g f.wait,
-              step_ledger t h at b w f law (count g) (rw z),
+              step_ledger t h at s e w f law (count g),
             );
       }
 
 -- ---- what is promised
 
 named_packet : (v : ℕ) (i : Item) → Named v i → HoldsPacket i
-named_packet v Free h = tt
 named_packet v (Wire a p) h = h.1.2
 named_packet v (Out a p) h = (h.1.2, h.3)
 named_packet v (Up a p) h = h.1.2
@@ -128,7 +124,7 @@ holds s sound u hu =
       set_up = omega (arith, counted is_set_up_item l, weigh_le (count is_set_up_item) space set_up_space l);
       data_items = omega (arith, counted is_data_item l);
       item_places = k.whole.items;
-      free_place = omega (arith, counted is_free l, pending l, free_or_pending l, k.whole.items);
+      free_place = omega (arith, pending l, free_or_pending l, k.whole.items, k.places, k.tags);
       written = put_comes t k;
       stepped = step_finds_places t k s.network (stands s.users false);
       row_places = k.whole.rows;
@@ -143,10 +139,10 @@ holds s sound u hu =
       establishments = rows_each t k;
       row_nodes = h.rows;
       begun = k.begun;
-      packets = all_map (At (Named t.session.server)) (At HoldsPacket) (λ x. named_packet t.session.server x.item) l h.items;
-      waits = λ at.
-          let i = item_at l at in
-          pends i l (λ v. omega (arith, weigh_at (uses v) refl l at, k.waits v)) (wait_of i) (wanted i);
+      packets = all_items (Named t.session.server) HoldsPacket (named_packet t.session.server) l h.items;
+      waits = λ at x e.
+          let i = x.item in
+          pends i l (λ v. omega (arith, weigh_at (uses v) l at x e, k.waits v)) (wait_of i) (wanted i);
       discs = discs_on_wires t.session.server l h.items;
       last = h.last;
       numbers = h.distinct.once;

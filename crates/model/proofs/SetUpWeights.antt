@@ -19,7 +19,7 @@ use Rattle.calculus.specs.declared.packet.Packet.{Packet}
 use Rattle.calculus.specs.declared.packet.Side.{Side}
 use Rattle.calculus.specs.declared.packet.Side.TheVariants.{Responder, Initiator}
 use Rattle.calculus.specs.declared.packet.Item.{Item}
-use Rattle.calculus.specs.declared.packet.Item.TheVariants.{Free, Wire, Out, Up, Est, Auth, Grant, Ack, Dwait, Ewait}
+use Rattle.calculus.specs.declared.packet.Item.TheVariants.{Wire, Out, Up, Est, Auth, Grant, Ack, Dwait, Ewait}
 use Rattle.calculus.specs.declared.packet.Slot.{Slot}
 use Rattle.calculus.specs.declared.session.Row.{Row}
 use Rattle.calculus.specs.declared.session.Stage.{Stage}
@@ -28,18 +28,17 @@ use Rattle.model.specs.Packet.{is_data}
 use Rattle.model.specs.Item.{is_wait, is_that_wait, is_data_item}
 use Rattle.model.specs.Requests.{is_unused}
 use Rattle.model.specs.Termination.{is_active}
-use Rattle.model.specs.SetUp.{is_pending, is_set_up_item, is_grant, Pends, wait_of_packet, wait_of}
+use Rattle.model.specs.SetUp.{is_set_up_item, is_grant, Pends, wait_of_packet, wait_of}
 use Rattle.calculus.specs.Number.{within}
 use Rattle.model.proofs.Checks.{one, one_le}
 use Rattle.model.proofs.Lists.{tally_append, tally_each, up_append, up_length}
-use Rattle.model.proofs.Weights.{count, weigh, counted, weigh_le, weigh_sum}
+use Rattle.model.proofs.Weights.{count, every, weigh, counted, weigh_le, weigh_sum}
 
 -- ---- the weights
 
 -- an item's weight, by the weight of its packet, of an est's node and establishment, of the side of an auth and a grant, of an ack's
 -- node, of a wait
 abbrev weight : (Packet → ℕ) → (ℕ → ℕ → ℕ) → (Side → ℕ → ℕ → ℕ → ℕ) → (ℕ → ℕ) → ℕ → Item → ℕ
-weight packet est side ack wait Free = 0
 weight packet est side ack wait (Wire a p) = packet p
 weight packet est side ack wait (Out a p) = packet p
 weight packet est side ack wait (Up a p) = packet p
@@ -145,7 +144,6 @@ packet_wanted a from (Data tag) i h = tt
 
 pub wanted : (i : Item) → Wanted i (wait_of i)
 unfolding uses waits
-wanted Free = tt
 wanted (Wire a p) = packet_wanted p.destination p.source p.payload (Wire a p) (λ v. refl)
 wanted (Out a p) = packet_wanted p.destination p.source p.payload (Out a p) (λ v. refl)
 wanted (Up a p) = packet_wanted p.destination p.source p.payload (Up a p) (λ v. refl)
@@ -157,7 +155,7 @@ wanted (Dwait a) = tt
 wanted (Ewait a e) = tt
 
 -- a wait that an item is to use up pends, if as many do as are used up
-pub pends : (i : Item) (l : List Slot) → ((v : Wait) → uses v i ≤ weigh (waits v) l) → (v : Option Wait) → Wanted i v → Pends l v
+pub pends : (i : Item) (l : List (Option Slot)) → ((v : Wait) → uses v i ≤ weigh (waits v) l) → (v : Option Wait) → Wanted i v → Pends l v
 unfolding waits
 pends i l h None k = tt
 pends i l h (Some v) k = omega (arith, h v, counted (is_that_wait v) l)
@@ -177,7 +175,6 @@ side_space_lem Initiator = omega arith
 
 pub set_up_space : (i : Item) → count is_set_up_item i ≤ space i
 unfolding space
-set_up_space Free = omega arith
 set_up_space (Wire a p) = packet_space_lem p.payload
 set_up_space (Out a p) = packet_space_lem p.payload
 set_up_space (Up a p) = packet_space_lem p.payload
@@ -198,17 +195,16 @@ active_space i = go (is_set_up_item i) (is_wait i) (set_up_space i)
     go false w h = omega arith
 
 -- an item is the set-up's, or Data
-set_up_or_data : (i : Item) → count is_pending i ≤ space i + carries i
+set_up_or_data : (i : Item) → 1 ≤ space i + carries i
 unfolding carries
-set_up_or_data i = go (is_pending i) (is_data_item i) (set_up_space i)
+set_up_or_data i = go (is_data_item i) (set_up_space i)
   where
-    go : (p d : Bool) {k : ℕ} → cond (p && not d) 1 0 ≤ k → cond p 1 0 ≤ k + cond d 1 0
-    go true true h = omega arith
-    go true false h = omega arith
-    go false d h = omega arith
+    go : (d : Bool) {k : ℕ} → cond (not d) 1 0 ≤ k → 1 ≤ k + cond d 1 0
+    go true h = omega arith
+    go false h = omega arith
 
-pub pending : (l : List Slot) → weigh (count is_pending) l ≤ weigh space l + weigh carries l
-pending l = omega (arith, weigh_le (count is_pending) (λ i. space i + carries i) set_up_or_data l, weigh_sum space carries l)
+pub pending : (l : List (Option Slot)) → weigh every l ≤ weigh space l + weigh carries l
+pending l = omega (arith, weigh_le every (λ i. space i + carries i) set_up_or_data l, weigh_sum space carries l)
 
 -- ---- the rows to come
 
@@ -219,7 +215,6 @@ side_due_lem Initiator e = omega arith
 -- a grant adds two rows
 pub grant_due : (i : Item) → count is_grant i + count is_grant i ≤ due each i
 unfolding due
-grant_due Free = omega arith
 grant_due (Wire a p) = omega arith
 grant_due (Out a p) = omega arith
 grant_due (Up a p) = omega arith
@@ -232,7 +227,6 @@ grant_due (Ewait a e) = omega arith
 
 pub grant_active : (i : Item) → count is_grant i ≤ active i
 unfolding active
-grant_active Free = omega arith
 grant_active (Wire a p) = omega arith
 grant_active (Out a p) = omega arith
 grant_active (Up a p) = omega arith

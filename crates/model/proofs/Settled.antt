@@ -6,6 +6,8 @@ use mathlib.Core.Option.{Option, none, some}
 use Prim.Native.Nat.{ℕ, ◌≤◌}
 use native.Mathlib.Omega.{arith}
 use lib.Dec.{ltb}
+use Rattle.std.specs.Prelude as std
+use Rattle.std.specs.Prelude.{None}
 use Rattle.calculus.proofs.Tests.{Way, is, isnt, way, both, never, either}
 use Rattle.calculus.specs.Number.{within, is_session, is_item, is_establishment, is_tag}
 use Rattle.calculus.specs.declared.network.Network.{Network}
@@ -16,19 +18,19 @@ use Rattle.calculus.specs.declared.state.State.{State}
 use Rattle.forms.specs.Text.{Form, node, route, «open», step, send, close, show, net, take_down}
 use Rattle.forms.specs.Read.{read}
 use Rattle.forms.specs.Request.{asked}
-use Rattle.model.specs.Lists.{place, All}
+use Rattle.model.specs.Lists.{All}
 use Rattle.model.specs.Row.{are_nodes}
 use Rattle.model.specs.Rules.{rule}
-use Rattle.model.specs.State.{load, blank_slot, is_numbered, applied}
-use Rattle.model.specs.Requests.{Move, refuse, spent, next_number, stepped, step_at, step_move, data_item, sending, send_move, closing, close_move, dropping, drop_move}
+use Rattle.model.specs.State.{load, found_item, applied}
+use Rattle.model.specs.Requests.{Move, refuse, spent, next_number, stepped, step_move, data_item, sending, send_move, closing, close_move, dropping, drop_move}
 use Rattle.model.specs.Calls.{Call, call, is_accepted, form_names, is_own}
-use Rattle.model.specs.SetUp.{is_set_up_item, item_at}
-use Rattle.model.specs.Termination.{form_count, call_count, is_active, Settled, form_opens, opens}
+use Rattle.model.specs.Termination.{is_counted, form_count, call_count, is_active, Settled, form_opens, opens}
 use Rattle.model.proofs.Checks.{checked_either}
-use Rattle.model.proofs.Lists.{all_get, all_set, none_tallied, tally_none}
+use Rattle.model.proofs.Lists.{all_set}
 use Rattle.model.proofs.Parts.{Numbered}
+use Rattle.model.proofs.Steps.{step_either}
 use Rattle.model.proofs.Balance.{rule_law}
-use Rattle.model.proofs.Sane.{At, all_put, all_after}
+use Rattle.model.proofs.Sane.{At, all_at, all_put, all_after, none_items, items_none}
 use Rattle.model.proofs.Tracked.{Inactive, inactive_none, written_inactive, data_inactive}
 use Rattle.model.proofs.Local.{Seen, seen_move, seen_parsed, ranged_seen, local, call_own}
 use Rattle.model.proofs.Replies.{call_others}
@@ -41,28 +43,26 @@ module _ (network : Network) (t : Part) (k : Settled t) where
   Stays x = Settled x.part
 
   inactive : spent t ≡ false → All (At Inactive) t.items
-  inactive l = none_tallied (λ s. is_active s.item) t.items (k l)
+  inactive l = none_items is_active t.items (k l)
 
   settled_step : (i : ℕ) → Stays (seen_move t (step_move network are_nodes i t))
-  unfolding step_move step_at stepped applied
+  unfolding stepped applied
   settled_step i =
-      let at = place (is_numbered i) t.items in
-      let item = item_at t.items at in
-      let f = rule network are_nodes t item in
-      checked_either (λ (m : Move). Stays (seen_move t m)) refuse (λ r. k) _
-      (λ e l.
-      let quiet = inactive e.1.1.1.0 in
-      let z = inactive_none item (all_get (At Inactive) t.items at blank_slot quiet refl) in
-      tally_none (λ s. is_active s.item) (applied t at f).items
-      (all_after Inactive refl t.items t.session.last.0 at f (all_set (At Inactive) t.items at blank_slot quiet refl)
-      (written_inactive f.outcome (omega (arith, (rule_law network are_nodes t item).actives, z)))))
+      step_either network are_nodes i t (λ o m. Stays (seen_move t m)) (λ o r. k)
+      (λ at s e p l.
+      let f = rule network are_nodes t s.item in
+      let quiet = inactive p.left in
+      let z = inactive_none s.item (all_at Inactive t.items at s e quiet) in
+      items_none is_active (applied t at f).items
+      (all_after Inactive t.items t.session.last.0 at f (all_set (At Inactive) t.items at None quiet tt)
+      (written_inactive f.outcome (omega (arith, (rule_law network are_nodes t s.item).actives, z)))))
 
   settled_send : (w : Sender) (tag : ℕ) → Stays (seen_move t (send_move w tag t))
   unfolding send_move sending
   settled_send w tag =
       checked_either (λ (m : Move). Stays (seen_move t m)) refuse (λ r. k) _
       (λ e l.
-      tally_none (λ s. is_active s.item) (sending t w tag).items
+      items_none is_active (sending t w tag).items
       (all_put Inactive t.items (next_number t) (data_item t.session w tag) (inactive e.1.1.0) (data_inactive t.session w tag)))
 
   settled_close : Stays (seen_move t (close_move t))
@@ -92,11 +92,11 @@ module _ (network : Network) (t : Part) (k : Settled t) where
   unfolding local
   local_settled u c e w = either Stays (ltb c.size 65536) (λ s. k) (λ s. line_settled u (read c.line) e w)
 
-form_grows : (u : ℕ) (l : List Slot) (n : ℕ) (o : Option Form) → form_names u o ≡ true → form_opens u o ≡ false → n ≤ form_count l n o
+form_grows : (u : ℕ) (l : List (std.Option Slot)) (n : ℕ) (o : Option Form) → form_names u o ≡ true → form_opens u o ≡ false → n ≤ form_count l n o
 form_grows u l n (some (node a x has needs)) e w = never e
 form_grows u l n (some (route a b next)) e w = never e
 form_grows u l n (some («open» v c d)) e w = never (sym w ∙ e)
-form_grows u l n (some (step v i)) e w = either (λ m. n ≤ m) (is_set_up_item (item_at l (place (is_numbered i) l))) (λ k. omega arith) (λ k. omega arith)
+form_grows u l n (some (step v i)) e w = either (λ m. n ≤ m) (is_counted (found_item i l)) (λ k. omega arith) (λ k. omega arith)
 form_grows u l n (some (send v x tag)) e w = omega arith
 form_grows u l n (some (close v)) e w = omega arith
 form_grows u l n (some show) e w = never e

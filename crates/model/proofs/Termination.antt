@@ -6,18 +6,18 @@ use mathlib.Core.Option.{none}
 use mathlib.Core.Logic.{◌⊎◌, inl, inr}
 use Prim.Native.Nat.{ℕ, suc, ◌+◌, ◌≤◌, ◌<◌}
 use native.Mathlib.Omega.{arith}
-use lib.ListN.{length, get_or}
+use lib.ListN.{length}
+use Rattle.std.specs.Prelude.{Option, Some, None}
 use Rattle.calculus.proofs.Tests.{Way, is, isnt, way, never}
 use Rattle.calculus.specs.Number.{is_session}
 use Rattle.calculus.specs.declared.packet.Slot.{Slot}
 use Rattle.calculus.specs.declared.state.State.{State}
 use Rattle.forms.specs.Text.{step, text}
 use Rattle.model.specs.Lists.{All}
-use Rattle.model.specs.Item.{how_many_items}
-use Rattle.model.specs.State.{fresh, load, blank_slot}
+use Rattle.model.specs.Item.{of_item, OfSlot, how_many_items, slot_at}
+use Rattle.model.specs.State.{fresh, load}
 use Rattle.model.specs.Requests.{spent}
 use Rattle.model.specs.Calls.{answered, Call, roomy_call, call, after}
-use Rattle.model.specs.SetUp.{item_at}
 use Rattle.model.specs.Termination.{ceiling, call_count, set_up_steps, is_active, Settled, active_steps, after_rounds, opens, Terminates, Termination}
 use Rattle.model.proofs.Checks.{one}
 use Rattle.model.proofs.Lists.{all_of_get_d}
@@ -31,37 +31,43 @@ use Rattle.model.proofs.Progress.{no_open, its_refusal, its_count}
 
 -- ---- rounds
 
--- the step call of the item at place `at`
-abbrev step_call_at : ℕ → List Slot → ℕ → Call
-step_call_at u l at = roomy_call (text (step u (get_or l at blank_slot).number.0))
+-- the step call of an item
+abbrev step_call : ℕ → Slot → Call
+step_call u s = roomy_call (text (step u s.number.0))
 
 -- the step calls of a session of whose items one at most is neither a wait nor Data
-data Steps (u : ℕ) (l : List Slot) : List Call → Type 0 where
+data Steps (u : ℕ) (l : List (Option Slot)) : List Call → Type 0 where
   no_step : how_many_items is_active l ≡ 0 → Steps u l []
-  one_step : (at : ℕ) → at < length l → is_active (item_at l at) ≡ true → Steps u l (step_call_at u l at ∷ [])
+  one_step : (at : ℕ) (s : Slot) → slot_at l at ≡ Some s → is_active s.item ≡ true → Steps u l (step_call u s ∷ [])
 
-no_steps : (u : ℕ) (l : List Slot) → how_many_items is_active l ≡ 0 → active_steps u l ≡ []
+no_steps : (u : ℕ) (l : List (Option Slot)) → how_many_items is_active l ≡ 0 → active_steps u l ≡ []
 no_steps u [] h = refl
-no_steps u (x ∷ l) h = go (is_active x.item) h (no_steps u l)
+no_steps u (None ∷ l) h = no_steps u l (omega arith)
+no_steps u (Some s ∷ l) h = go (is_active s.item) h (no_steps u l)
   where
     go : (b : Bool) → one b + how_many_items is_active l ≡ 0 → (how_many_items is_active l ≡ 0 → active_steps u l ≡ [])
-        → cond b (roomy_call (text (step u x.number.0)) ∷ active_steps u l) (active_steps u l) ≡ []
+        → cond b (step_call u s ∷ active_steps u l) (active_steps u l) ≡ []
     go true k g = absurd (omega arith)
     go false k g = g (omega arith)
 
-steps : (u : ℕ) (l : List Slot) → how_many_items is_active l ≤ 1 → Steps u l (active_steps u l)
-steps u [] h = no_step refl
-steps u (x ∷ l) h = go (way (is_active x.item)) (steps u l)
-  where
-    behind : (cs : List Call) → is_active x.item ≡ false → Steps u l cs → Steps u (x ∷ l) cs
-    behind cs e (no_step z) = no_step (rw e (omega arith))
-    behind cs e (one_step at b k) = one_step (suc at) (omega arith) k
+behind : (u : ℕ) (x : Option Slot) (l : List (Option Slot)) (cs : List Call) → of_item is_active x ≡ false → Steps u l cs → Steps u (x ∷ l) cs
+behind u x l cs e (no_step z) = no_step (rw e (omega arith))
+behind u x l cs e (one_step at s b k) = one_step (suc at) s b k
 
-    go : Way (is_active x.item) → (how_many_items is_active l ≤ 1 → Steps u l (active_steps u l)) → Steps u (x ∷ l) (active_steps u (x ∷ l))
+steps : (u : ℕ) (l : List (Option Slot)) → how_many_items is_active l ≤ 1 → Steps u l (active_steps u l)
+steps u [] h = no_step refl
+steps u (None ∷ l) h = behind u None l (active_steps u l) refl (steps u l (omega arith))
+steps u (Some s ∷ l) h = go (way (is_active s.item)) (steps u l)
+  where
+    go : Way (is_active s.item) → (how_many_items is_active l ≤ 1 → Steps u l (active_steps u l)) → Steps u (Some s ∷ l) (active_steps u (Some s ∷ l))
     go (is e) g =
         let z : how_many_items is_active l ≡ 0 = omega (arith, rw e at h) in
-        rw (e, no_steps u l z) (one_step 0 (omega arith) e)
-    go (isnt e) g = rw e (behind (active_steps u l) e (g (omega (arith, rw e at h))))
+        rw (e, no_steps u l z) (one_step 0 s refl e)
+    go (isnt e) g = rw e (behind u (Some s) l (active_steps u l) e (g (omega (arith, rw e at h))))
+
+each_slot : (P : Slot → Type 0) (x : Option Slot) → ((s : Slot) → x ≡ Some s → P s) → OfSlot P x
+each_slot P None h = tt
+each_slot P (Some s) h = h s refl
 
 module _ (u : ℕ) (q : is_session u ≡ true) where
   hu : Numbered u
@@ -91,18 +97,18 @@ module _ (u : ℕ) (q : is_session u ≡ true) where
       → Ending (after s cs) (set_up_steps u s n cs) k
   unfolding after set_up_steps
   round s n f k g cs (no_step z) = inl (λ l. z)
-  round s n f k g cs (one_step at b e) = go (way (spent (load s u))) g
+  round s n f k g cs (one_step at x b e) = go (way (spent (load s u))) g
     where
       c : Call
-      c = step_call_at u (load s u).items at
+      c = step_call u x
 
       stays : Settled (load s u) → Ending (call s c).state (call_count u s n c) k
-      stays g = inl (call_settled u hu s f.sound c (no_open s f.sound u q at b e) g)
+      stays g = inl (call_settled u hu s f.sound c (no_open s f.sound u q at x b e) g)
 
       go : Way (spent (load s u)) → Ending s n (suc k) → Ending (call s c).state (call_count u s n c) k
       go (is w) g = stays (λ l. never (sym l ∙ w))
       go (isnt w) (inl g) = stays g
-      go (isnt w) (inr g) = inr (omega (arith, its_count s f.sound u q at b e w n))
+      go (isnt w) (inr g) = inr (omega (arith, its_count s f.sound u q at x b e w n))
 
   -- with no step left by the ceiling
   at_ceiling : (s : State) (n : ℕ) → Follows u s n → ceiling ≤ n → Settled (load s u)
@@ -110,8 +116,8 @@ module _ (u : ℕ) (q : is_session u ≡ true) where
     where
       go : (cs : List Call) → Steps u (load s u).items cs → how_many_items is_active (load s u).items ≡ 0
       go cs (no_step z) = z
-      go cs (one_step at b e) =
-          absurd (omega (arith, its_count s f.sound u q at b e l n, (call_follows u hu s n f (step_call_at u (load s u).items at)).tracked.few))
+      go cs (one_step at x b e) =
+          absurd (omega (arith, its_count s f.sound u q at x b e l n, (call_follows u hu s n f (step_call u x)).tracked.few))
 
   settle : (rounds : List (List Call)) → All (All (λ c. opens u c ≡ false)) rounds → (s : State) (n : ℕ) → Follows u s n
       → Ending s n (length rounds) → Settled (load (after_rounds u s rounds) u)
@@ -131,8 +137,9 @@ module _ (u : ℕ) (q : is_session u ≡ true) where
       record {
         bounded = f.tracked.few;
         progress = λ l size big.
-            all_of_get_d (λ x. is_active x.item ≡ true → (answered (after fresh cs) (text (step u x.number.0)) size).refusal ≡ none)
-            (load (after fresh cs) u).items blank_slot (λ at b e. its_refusal (after fresh cs) f.sound u q at b e l size big);
+            let Steps' : Slot → Type 0 = λ x. is_active x.item ≡ true → (answered (after fresh cs) (text (step u x.number.0)) size).refusal ≡ none in
+            let l' = (load (after fresh cs) u).items in
+            all_of_get_d (OfSlot Steps') l' None (λ at b. each_slot Steps' (slot_at l' at) (λ s h e. its_refusal (after fresh cs) f.sound u q at s h e l size big));
         settles = λ rounds a k. settle rounds a (after fresh cs) _ f (inr k);
       }
 

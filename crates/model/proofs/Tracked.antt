@@ -5,6 +5,7 @@ use mathlib.Core.List.{List}
 use Prim.Native.Nat.{ℕ, ◌+◌, ◌-◌, ◌≤◌, ◌<◌}
 use native.Mathlib.Omega.{arith}
 use lib.ListN.{set}
+use Rattle.std.specs.Prelude.{Option, Some, None}
 use Rattle.calculus.proofs.Tests.{never, either}
 use Rattle.calculus.specs.declared.effect.Outcome.{Outcome}
 use Rattle.calculus.specs.declared.effect.Outcome.TheVariants.{Wrote, WroteByDefault, WroteTwo, Lost, Denied, Opened, Delivered}
@@ -18,21 +19,21 @@ use Rattle.calculus.specs.declared.session.Row.{Row}
 use Rattle.calculus.specs.declared.session.Session.{Session}
 use Rattle.calculus.specs.declared.state.Part.{Part}
 use Rattle.model.specs.Lists.{All}
-use Rattle.model.specs.Item.{is_wait}
+use Rattle.model.specs.Item.{is_wait, slot_at}
 use Rattle.model.specs.Row.{held, are_nodes}
 use Rattle.model.specs.Rules.{rule}
-use Rattle.model.specs.State.{blank_slot, begun_after, added_rows, placed, session_after, applied}
+use Rattle.model.specs.State.{begun_after, added_rows, placed, session_after, applied}
 use Rattle.model.specs.Requests.{data_item}
-use Rattle.model.specs.SetUp.{is_set_up_item, item_at}
+use Rattle.model.specs.SetUp.{is_set_up_item}
 use Rattle.model.specs.Termination.{ceiling, is_active}
 use Rattle.model.proofs.Checks.{one}
-use Rattle.model.proofs.Lists.{all_map, all_set, all_get, all_append, all_take, none_tallied}
-use Rattle.model.proofs.Weights.{weigh_out, counted, weigh_set}
+use Rattle.model.proofs.Lists.{all_map, all_set, all_append, all_take}
+use Rattle.model.proofs.Weights.{weigh_out, counted, weigh_gone}
 use Rattle.model.proofs.SetUpWeights.{active, grant_active}
 use Rattle.model.proofs.Balance.{Law, rule_law}
 use Rattle.model.proofs.Moves.{held_applied, none_added}
 use Rattle.model.proofs.Named.{Written}
-use Rattle.model.proofs.Sane.{At, Sane, all_after}
+use Rattle.model.proofs.Sane.{At, Sane, all_at, all_after, none_items, all_items}
 use Rattle.model.proofs.Points.{Chained, chained_more}
 use Rattle.model.proofs.Underway.{Ends, Underway}
 use Rattle.model.proofs.Advances.{advances}
@@ -96,9 +97,9 @@ data_inactive s Server tag = refl
 -- ---- a step
 
 module _ (net : Network) (t : Part) (h : Sane t) (n : ℕ) (k : Tracked net t n)
-    (at : ℕ) (b : at < 16) (w : is_wait (item_at t.items at) ≡ false) where
+    (at : ℕ) (s : Slot) (b : slot_at t.items at ≡ Some s) (w : is_wait s.item ≡ false) where
   abbrev item : Item
-  item = item_at t.items at
+  item = s.item
 
   abbrev effect : Effect
   effect = rule net are_nodes t item
@@ -115,8 +116,8 @@ module _ (net : Network) (t : Part) (h : Sane t) (n : ℕ) (k : Tracked net t n)
   abbrev Later : ℕ → Item → Type 0
   Later m i = Tracks net t.session.client t.session.server begun m i
 
-  abbrev rest : List Slot
-  rest = set t.items at blank_slot
+  abbrev rest : List (Option Slot)
+  rest = set t.items at None
 
   abbrev LaterRow : Row → Type 0
   LaterRow r = Chained net t.session.client t.session.server begun r
@@ -127,7 +128,7 @@ module _ (net : Network) (t : Part) (h : Sane t) (n : ℕ) (k : Tracked net t n)
   tracked_later m few others written added =
       record {
         few = few;
-        items = all_after (Later m) (λ o. never o) t.items t.session.last.0 at effect others written;
+        items = all_after (Later m) t.items t.session.last.0 at effect others written;
         rows = rw (held_applied t h.roomy.whole at effect)
             (all_append LaterRow (held t) (placed t.session.rows effect.added)
             (all_map _ LaterRow (chained_more net _ _ _ begun law.begins.0) (held t) k.rows)
@@ -138,21 +139,15 @@ module _ (net : Network) (t : Part) (h : Sane t) (n : ℕ) (k : Tracked net t n)
   others_inactive : is_active item ≡ true → All (At Inactive) rest
   unfolding active
   others_inactive e =
-      none_tallied (λ s. is_active s.item) rest
-      (omega (
-        arith,
-        h.roomy.actives,
-        weigh_set active t.items at blank_slot (omega (arith, h.roomy.whole)),
-        active_one item e,
-        counted is_active rest,
-      ))
+      none_items is_active rest
+      (omega (arith, h.roomy.actives, weigh_gone active t.items at s b, active_one item e, counted is_active rest))
 
   active_step : is_active item ≡ true → Tracked net stepped (n + 1)
   active_step e =
-      let x = all_get (At (Tracks net _ _ _ n)) t.items at blank_slot k.items (λ o. never o) e in
+      let x = all_at (Tracks net _ _ _ n) t.items at s b k.items e in
       let next = advances net t n x.0 k.rows item x.1 in
       tracked_later (n + 1) next.counted
-      (all_map (At Inactive) (At (Later (n + 1))) (λ s q o. never (sym q ∙ o)) rest (others_inactive e))
+      (all_items Inactive (Later (n + 1)) (λ i q o. never (sym q ∙ o)) rest (others_inactive e))
       (written_map _ (Later (n + 1)) (λ i v o. (x.0, v o)) effect.outcome next.written)
       next.added
 
@@ -162,7 +157,7 @@ module _ (net : Network) (t : Part) (h : Sane t) (n : ℕ) (k : Tracked net t n)
       let same : t.session.begun ≡ begun = omega (arith, law.begins, z) in
       tracked_later n k.few
       (subst (λ (x : ℕ). All (At (Tracks net t.session.client t.session.server x n)) rest) same
-      (all_set (At (Tracks net _ _ _ n)) t.items at blank_slot k.items (λ o. never o)))
+      (all_set (At (Tracks net _ _ _ n)) t.items at None k.items tt))
       (written_map Inactive (Later n) (λ i q o. never (sym q ∙ o)) effect.outcome (written_inactive effect.outcome (omega (arith, law.actives, z))))
       (rw (none_added effect.added (omega (arith, law.adds, grant_active item, z))) tt)
 

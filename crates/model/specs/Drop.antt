@@ -1,9 +1,11 @@
 -- Request #109: a tunnel that is dropped leaves what stood before it. Proved in proofs/Drop. Assumes nothing.
 use Rattle.std.specs.Prelude.{ℕ, ◌≡◌, true, cond, List, [], ◌∷◌, ◌++◌}
+use Rattle.std.specs.Prelude.{Option, None, Some}
 use Rattle.std.proofs.Math.Option.{none, some}
 use Rattle.calculus.specs.Number.{is_session}
 use Rattle.calculus.specs.declared.packet.Item.{Item}
-use Rattle.calculus.specs.declared.packet.Item.TheVariants.{Free, Wire, Out, Up, Est, Auth, Grant, Ack, Dwait, Ewait}
+use Rattle.calculus.specs.declared.packet.Item.TheVariants.{Wire, Out, Up, Est, Auth, Grant, Ack, Dwait, Ewait}
+use Rattle.calculus.specs.declared.packet.Slot.{Slot}
 use Rattle.calculus.specs.declared.request.Request as request
 use Rattle.calculus.specs.declared.request.Request.TheVariants.{Node, Route, Open, Step, Send, Close, Show, Net, Drop}
 use Rattle.calculus.specs.declared.state.State.{State}
@@ -12,11 +14,9 @@ use Rattle.forms.specs.declared.read.Parsed.TheVariants.{Asks, Refused}
 use Rattle.forms.specs.Text.{take_down}
 use Rattle.forms.specs.Read.{read}
 use Rattle.forms.specs.Request.{asked}
-use Rattle.model.specs.Lists.{place}
 use Rattle.model.specs.Row.{held}
-use Rattle.model.specs.State.{fresh, load, is_numbered}
+use Rattle.model.specs.State.{fresh, load, found_item}
 use Rattle.model.specs.Calls.{Call, call, is_accepted, after}
-use Rattle.model.specs.SetUp.{item_at}
 
 -- ---- the calls that add rows or remove some
 
@@ -28,7 +28,6 @@ pub data Event : Type 0 where
 
 -- the events of an accepted step of session u on the item i
 abbrev pub step_events : ℕ → Item → List Event
-step_events u Free = []
 step_events u (Wire a p) = []
 step_events u (Out a p) = []
 step_events u (Up a p) = []
@@ -39,12 +38,17 @@ step_events u (Ack a e) = []
 step_events u (Dwait a) = []
 step_events u (Ewait a e) = []
 
+-- the same, of the item that was found, if one was
+abbrev pub found_events : ℕ → Option (ℕ × Slot) → List Event
+found_events u None = []
+found_events u (Some (at, s)) = step_events u s.item
+
 -- the events of a request that is accepted on the state s
 abbrev pub request_events : State → request.Request → List Event
 request_events s (Node a k) = []
 request_events s (Route a b next) = []
 request_events s (Open u c d) = []
-request_events s (Step u k) = let l = (load s u.0).items in step_events u.0 (item_at l (place (is_numbered k.0) l))
+request_events s (Step u k) = found_events u.0 (found_item k.0 (load s u.0).items)
 request_events s (Send u w tag) = []
 request_events s (Close u) = removed ∷ []
 request_events s Show = []

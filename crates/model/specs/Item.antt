@@ -1,29 +1,15 @@
 -- Items: what is asked of one, and of the places that hold them. Assumes nothing.
-use Rattle.std.specs.Prelude.{ℕ, Bool, true, false, ◌&&◌, List, eqb, Option, Some, None, is_some}
+use Rattle.std.specs.Prelude.{ℕ, Bool, true, false, ◌&&◌, List, eqb, get_or, Option, Some, None, is_some}
 use Rattle.calculus.specs.declared.effect.Wait.{Wait}
 use Rattle.calculus.specs.declared.effect.Wait.TheVariants.{Discovery, Establishment}
 use Rattle.calculus.specs.declared.packet.Item.{Item}
-use Rattle.calculus.specs.declared.packet.Item.TheVariants.{Free, Wire, Out, Up, Est, Auth, Grant, Ack, Dwait, Ewait}
+use Rattle.calculus.specs.declared.packet.Item.TheVariants.{Wire, Out, Up, Est, Auth, Grant, Ack, Dwait, Ewait}
 use Rattle.calculus.specs.declared.packet.Slot.{Slot}
 use Rattle.model.specs.Lists.{tally}
 use Rattle.model.specs.Packet.{is_data, concerns}
 
--- no item
-abbrev pub is_free : Item → Bool
-is_free Free = true
-is_free (Wire a p) = false
-is_free (Out a p) = false
-is_free (Up a p) = false
-is_free (Est a b e) = false
-is_free (Auth a q e side) = false
-is_free (Grant a q e side) = false
-is_free (Ack a e) = false
-is_free (Dwait a) = false
-is_free (Ewait a e) = false
-
 -- the wait that the item is: dwait(a), ewait(a, e) or none
 abbrev pub wait_in : Item → Option Wait
-wait_in Free = None
 wait_in (Wire a p) = None
 wait_in (Out a p) = None
 wait_in (Up a p) = None
@@ -55,7 +41,6 @@ is_that_wait w i = is_that w (wait_in i)
 
 -- a packet with Data
 abbrev pub is_data_item : Item → Bool
-is_data_item Free = false
 is_data_item (Wire a p) = is_data p.payload
 is_data_item (Out a p) = is_data p.payload
 is_data_item (Up a p) = is_data p.payload
@@ -69,7 +54,6 @@ is_data_item (Ewait a e) = false
 -- "an item naming that establishment" (request #109): est, auth, grant, ack and ewait of e, and Req(e) and Rep(e) in any item. While a Req, a
 -- Rep or the responder's auth or grant pends its ewait does too, so no list of calls shows that these name it
 abbrev pub names_establishment : ℕ → Item → Bool
-names_establishment e Free = false
 names_establishment e (Wire a p) = concerns p.payload e
 names_establishment e (Out a p) = concerns p.payload e
 names_establishment e (Up a p) = concerns p.payload e
@@ -80,10 +64,22 @@ names_establishment e (Ack a f) = eqb f e
 names_establishment e (Dwait a) = false
 names_establishment e (Ewait a f) = eqb f e
 
--- how many places hold an item of which f holds
-abbrev pub how_many_items : (Item → Bool) → List Slot → ℕ
-how_many_items f l = tally (λ s. f s.item) l
+-- ---- places: each has an item with its number, or none
 
--- a free place
-abbrev pub vacant : Slot → Bool
-vacant s = is_free s.item
+-- f holds of the item in the place, if there is one
+abbrev pub of_item : (Item → Bool) → Option Slot → Bool
+of_item f None = false
+of_item f (Some s) = f s.item
+
+-- P holds of what is in the place, if an item is
+abbrev pub OfSlot : (Slot → Type 0) → Option Slot → Type 0
+OfSlot P None = Unit
+OfSlot P (Some s) = P s
+
+-- how many places hold an item of which f holds
+abbrev pub how_many_items : (Item → Bool) → List (Option Slot) → ℕ
+how_many_items f l = tally (of_item f) l
+
+-- what is in a place; past the places there is nothing
+abbrev pub slot_at : List (Option Slot) → ℕ → Option Slot
+slot_at l at = get_or l at None

@@ -18,7 +18,7 @@ use Rattle.forms.specs.declared.read.Parsed.{Parsed}
 use Rattle.forms.specs.declared.read.Parsed.TheVariants.{Asks, Refused}
 use Rattle.forms.specs.Read.{read}
 use Rattle.forms.specs.Request.{asked}
-use Rattle.model.specs.Item.{is_wait, vacant}
+use Rattle.model.specs.Item.{is_wait}
 use Rattle.model.specs.State.{fresh, load}
 use Rattle.model.specs.Calls.{Call, call, lines_of, after, replies, roomy_call}
 use Rattle.model.specs.Noninterference.{View, view}
@@ -49,9 +49,10 @@ abbrev pub lower : ℕ → ℕ → ℕ
 lower n m = cond (eqb m 0) n (cond (eqb n 0) m (cond (ltb n m) n m))
 
 -- "the lowest item that isn't a wait", or 0
-abbrev pub lowest : List Slot → ℕ
+abbrev pub lowest : List (Option Slot) → ℕ
 lowest [] = 0
-lowest (x ∷ l) = lower (cond (vacant x || is_wait x.item) 0 x.number.0) (lowest l)
+lowest (None ∷ l) = lowest l
+lowest (Some x ∷ l) = lower (cond (is_wait x.item) 0 x.number.0) (lowest l)
 
 -- a step is one of the session's lowest item
 abbrev pub steps_lowest : State → request.Request → Bool

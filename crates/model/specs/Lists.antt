@@ -6,11 +6,6 @@ abbrev pub fold : {A B : Type 0} → (B → A → B) → B → List A → B
 fold f b [] = b
 fold f b (x ∷ xs) = fold f (f b x) xs
 
--- the first place at which f holds, or the length
-abbrev pub place : {A : Type 0} → (A → Bool) → List A → ℕ
-place f [] = 0
-place f (x ∷ xs) = cond (f x) 0 (suc (place f xs))
-
 -- how many elements f holds of
 abbrev pub tally : {A : Type 0} → (A → Bool) → List A → ℕ
 tally f [] = 0

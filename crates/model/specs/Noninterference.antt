@@ -1,6 +1,7 @@
 -- Demand 3: no session can tell whether the others are there. Proved in proofs/Noninterference. Assumes nothing.
-use Rattle.std.specs.Prelude.{ℕ, ◌+◌, ◌≡◌, Bool, true, false, cond, not, List, [], ◌∷◌, ◌++◌, map}
+use Rattle.std.specs.Prelude.{ℕ, ◌+◌, ◌≡◌, Bool, true, false, cond, List, [], ◌∷◌, ◌++◌, map}
 use Rattle.std.proofs.Math.Option.{Option, none, some}
+use Rattle.std.specs.Prelude as std
 use Rattle.calculus.specs.Answer.{refusal_number}
 use Rattle.calculus.specs.Number.{is_node, is_session}
 use Rattle.calculus.specs.declared.answer.Answer.{Answer}
@@ -11,8 +12,7 @@ use Rattle.calculus.specs.declared.session.Row.{Row}
 use Rattle.calculus.specs.declared.session.Stage.{Stage}
 use Rattle.calculus.specs.declared.state.Part.{Part}
 use Rattle.calculus.specs.declared.state.State.{State}
-use Rattle.model.specs.Lists.{those, All, up_from}
-use Rattle.model.specs.Item.{vacant}
+use Rattle.model.specs.Lists.{All, up_from}
 use Rattle.model.specs.Row.{held, how_many, users_of, row_stands}
 use Rattle.model.specs.State.{fresh, load}
 use Rattle.model.specs.Requests.{unused}
@@ -57,9 +57,11 @@ issued (r ∷ rs) = numbers_in_lines r.lines ++ issued rs
 
 -- ---- what a session sees of itself
 
--- the places that hold an item
-abbrev pub pending : List Slot → List Slot
-pending l = those (λ s. not (vacant s)) l
+-- the pending items, in the order of their places
+abbrev pub pending : List (std.Option Slot) → List Slot
+pending [] = []
+pending (std.None ∷ l) = pending l
+pending (std.Some s ∷ l) = s ∷ pending l
 
 -- "Ends are compared while the session is in use"
 abbrev pub ends_of : Part → Option (ℕ × ℕ)

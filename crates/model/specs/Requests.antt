@@ -1,5 +1,5 @@
 -- What each request answers, and the state that it leaves; its refusals, in document 01's order. Assumes nothing.
-use Rattle.std.specs.Prelude.{ℕ, ◌+◌, ◌-◌, Bool, true, false, cond, not, ◌&&◌, ◌||◌, List, [], ◌∷◌, ◌++◌, map, leb, ltb, eqb, length, get_or, set, take}
+use Rattle.std.specs.Prelude.{ℕ, ◌+◌, ◌-◌, Bool, true, false, cond, not, ◌&&◌, ◌||◌, List, [], ◌∷◌, ◌++◌, map, leb, ltb, eqb, length, set, take, Option, Some, None}
 use Rattle.std.proofs.lemmas.List.Edits.{sets}
 use Rattle.calculus.specs.declared.answer.Answer.{Answer}
 use Rattle.calculus.specs.declared.answer.Answer.TheVariants.{Ok, Made, Closed, No}
@@ -12,6 +12,7 @@ use Rattle.calculus.specs.declared.network.Network.{Network}
 use Rattle.calculus.specs.declared.packet.Payload.TheVariants.{Disc, Data}
 use Rattle.calculus.specs.declared.packet.Item.{Item}
 use Rattle.calculus.specs.declared.packet.Item.TheVariants.{Wire, Out}
+use Rattle.calculus.specs.declared.packet.Slot.{Slot}
 use Rattle.calculus.specs.declared.request.Sender.{Sender}
 use Rattle.calculus.specs.declared.request.Sender.TheVariants.{Client, Server}
 use Rattle.calculus.specs.declared.session.Row.{Row}
@@ -23,13 +24,13 @@ use Rattle.calculus.specs.declared.state.State.{State}
 use Rattle.calculus.specs.declared.state.Turn.{Turn}
 use Rattle.calculus.specs.Table.{entries_from, only_if}
 use Rattle.forms.specs.Answer.{association_line, end_line}
-use Rattle.model.specs.Lists.{place, those}
+use Rattle.model.specs.Lists.{those}
 use Rattle.model.specs.Network.{given, is_gateway, is_default, route_place, is_routed}
 use Rattle.model.specs.Packet.{bare}
 use Rattle.model.specs.Item.{is_wait, is_data_item, names_establishment, how_many_items}
 use Rattle.model.specs.Row.{held, is_of, is_other, place_out, place_node, place_peer, raised, lowered, spi_of}
 use Rattle.model.specs.Rules.{rule}
-use Rattle.model.specs.State.{blank_slot, blank_part, load, store, is_numbered, put_item, placed, answer_of, applied}
+use Rattle.model.specs.State.{blank_part, load, store, found_item, put_item, placed, answer_of, applied}
 
 -- ---- refusals
 
@@ -159,16 +160,16 @@ stepped t at f =
     moved (answer_of t.session.last.0 f.outcome) (applied t at f)
     (record { opens = false; went = []; came = placed t.session.rows f.added })
 
--- step 7, 11, 12, 10: the item stands at place `at`, or at no place where it is not pending
-unfoldable pub step_at : Network → (ℕ → ℕ → Bool) → Part → ℕ → Move
-step_at n standing t at =
-    let i = (get_or t.items at blank_slot).item in
-    checked refuse ((unused t, Idle) ∷ (leb 16 at, NoItem) ∷ (is_wait i, Waiting) ∷ (spent t, Spent) ∷ [])
-    (stepped t at (rule n standing t i))
+-- step 7, 11, 12, 10: of the pending item in its place, if there is one
+unfoldable pub step_at : Network → (ℕ → ℕ → Bool) → Part → Option (ℕ × Slot) → Move
+step_at n standing t None = checked refuse ((unused t, Idle) ∷ []) (refuse NoItem)
+step_at n standing t (Some (at, s)) =
+    checked refuse ((unused t, Idle) ∷ (is_wait s.item, Waiting) ∷ (spent t, Spent) ∷ [])
+    (stepped t at (rule n standing t s.item))
 
 -- "step u k"
 unfoldable pub step_move : Network → (ℕ → ℕ → Bool) → ℕ → Part → Move
-step_move n standing k t = step_at n standing t (place (is_numbered k) t.items)
+step_move n standing k t = step_at n standing t (found_item k t.items)
 
 -- "out(c, Data from c to d); with 1, out(d, Data from d to c)"
 abbrev pub data_item : Session → Sender → ℕ → Item

@@ -16,7 +16,7 @@ use Rattle.calculus.specs.declared.packet.Packet.{Packet}
 use Rattle.calculus.specs.declared.packet.Side.{Side}
 use Rattle.calculus.specs.declared.packet.Side.TheVariants.{Responder, Initiator}
 use Rattle.calculus.specs.declared.packet.Item.{Item}
-use Rattle.calculus.specs.declared.packet.Item.TheVariants.{Free, Wire, Out, Up, Est, Auth, Grant, Ack, Dwait, Ewait}
+use Rattle.calculus.specs.declared.packet.Item.TheVariants.{Wire, Out, Up, Est, Auth, Grant, Ack, Dwait, Ewait}
 use Rattle.calculus.specs.declared.session.Peers.{Peers}
 use Rattle.calculus.specs.declared.session.Row.{Row}
 use Rattle.calculus.specs.declared.session.Session.{Session}
@@ -191,9 +191,8 @@ ack_rule s a = writes_for (Some (Discovery a)) (acknowledged s a)
 
 -- ---- a step
 
--- the rule of an item; `standing a q` tells whether In(a, q) stands. A free place and a wait are refused before.
+-- the rule of an item; `standing a q` tells whether In(a, q) stands. A wait is refused before.
 unfoldable pub rule : Network → (ℕ → ℕ → Bool) → Part → Item → Effect
-rule n standing t Free = never_met
 rule n standing t (Wire a p) = wire_rule (is_gateway n a) (next_hop n a) t.session a p
 rule n standing t (Out a p) = out_rule (held t) a p
 rule n standing t (Up a p) = up_rule standing (held t) a p

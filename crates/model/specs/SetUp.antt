@@ -1,5 +1,5 @@
 -- What a set-up can hold, whatever the list of calls: no stated outcome for other tables is met. Proved in proofs/SetUp. Assumes nothing.
-use Rattle.std.specs.Prelude.{ℕ, ◌+◌, ◌*◌, ◌≤◌, ◌<◌, ◌≡◌, Bool, true, false, cond, not, ◌&&◌, List, [], ◌∷◌, ◌++◌, length, get_or, Option, Some, None, is_none}
+use Rattle.std.specs.Prelude.{ℕ, ◌+◌, ◌*◌, ◌≤◌, ◌<◌, ◌≡◌, Bool, true, false, cond, not, ◌&&◌, List, [], ◌∷◌, ◌++◌, length, get_or, Option, Some, None, is_none, is_some}
 use Rattle.calculus.specs.declared.effect.Outcome.{Outcome}
 use Rattle.calculus.specs.declared.effect.Outcome.TheVariants.{Wrote, WroteByDefault, WroteTwo, Lost, Denied, Opened, Delivered}
 use Rattle.calculus.specs.declared.effect.Wait.{Wait}
@@ -13,7 +13,7 @@ use Rattle.calculus.specs.declared.packet.Payload.TheVariants.{Req, Rep, Disc, D
 use Rattle.calculus.specs.declared.packet.Header.{Header}
 use Rattle.calculus.specs.declared.packet.Packet.{Packet}
 use Rattle.calculus.specs.declared.packet.Item.{Item}
-use Rattle.calculus.specs.declared.packet.Item.TheVariants.{Free, Wire, Out, Up, Est, Auth, Grant, Ack, Dwait, Ewait}
+use Rattle.calculus.specs.declared.packet.Item.TheVariants.{Wire, Out, Up, Est, Auth, Grant, Ack, Dwait, Ewait}
 use Rattle.calculus.specs.declared.packet.Slot.{Slot}
 use Rattle.calculus.specs.declared.state.Part.{Part}
 use Rattle.calculus.specs.declared.state.State.{State}
@@ -23,21 +23,17 @@ use Rattle.model.specs.Network.{given, is_gateway, next_hop}
 use Rattle.model.specs.Packet.{hop_limit}
 use Rattle.model.specs.Row.{held, is_of, are_nodes, users_of, stands}
 use Rattle.model.specs.Rules.{rule}
-use Rattle.model.specs.State.{fresh, load, blank_slot, is_numbered, put_item, added_rows, applied}
+use Rattle.model.specs.State.{fresh, load, is_numbered, put_item, added_rows, applied}
 use Rattle.model.specs.Requests.{unused}
-use Rattle.model.specs.Item.{is_free, is_wait, is_that_wait, is_data_item, how_many_items}
+use Rattle.model.specs.Item.{is_wait, is_that_wait, is_data_item, OfSlot, how_many_items, slot_at}
 use Rattle.model.specs.Calls.{Call, after}
 use Rattle.model.specs.Noninterference.{rows_naming}
 
-abbrev pub is_pending : Item → Bool
-is_pending i = not (is_free i)
-
 -- an item of the set-up: any but Data
 abbrev pub is_set_up_item : Item → Bool
-is_set_up_item i = is_pending i && not (is_data_item i)
+is_set_up_item i = not (is_data_item i)
 
 abbrev pub is_grant : Item → Bool
-is_grant Free = false
 is_grant (Wire a p) = false
 is_grant (Out a p) = false
 is_grant (Up a p) = false
@@ -57,7 +53,6 @@ is_disc (Data tag) = false
 
 -- a Disc anywhere but on a wire
 abbrev pub is_disc_off_wire : Item → Bool
-is_disc_off_wire Free = false
 is_disc_off_wire (Wire a p) = false
 is_disc_off_wire (Out a p) = is_disc p.payload
 is_disc_off_wire (Up a p) = is_disc p.payload
@@ -78,7 +73,6 @@ wait_of_packet a (Data tag) = None
 
 -- the wait that the item is to use up: a Rep its ewait, an ack its dwait
 abbrev pub wait_of : Item → Option Wait
-wait_of Free = None
 wait_of (Wire a p) = wait_of_packet p.destination p.payload
 wait_of (Out a p) = wait_of_packet p.destination p.payload
 wait_of (Up a p) = wait_of_packet p.destination p.payload
@@ -90,7 +84,7 @@ wait_of (Dwait a) = None
 wait_of (Ewait a e) = None
 
 -- the wait pends, if there is one
-abbrev pub Pends : List Slot → Option Wait → Type 0
+abbrev pub Pends : List (Option Slot) → Option Wait → Type 0
 Pends l None = Unit
 Pends l (Some w) = 1 ≤ how_many_items (is_that_wait w) l
 
@@ -105,7 +99,6 @@ FewHops p = (p.hops ≤ hop_limit) × FewOuter p.header
 
 -- what holds of the item's packet, if it has one: at out it is bare, so that there the count in use is the inner one
 abbrev pub HoldsPacket : Item → Type 0
-HoldsPacket Free = Unit
 HoldsPacket (Wire a p) = FewHops p
 HoldsPacket (Out a p) = FewHops p × (is_none p.header ≡ true)
 HoldsPacket (Up a p) = FewHops p
@@ -138,18 +131,14 @@ abbrev pub wait_items : Option Wait → List Item
 wait_items None = []
 wait_items (Some w) = wait_item w ∷ []
 
--- the item in a place, or Free past the places
-abbrev pub item_at : List Slot → ℕ → Item
-item_at l at = (get_or l at blank_slot).item
-
--- all that the effect f of the item at place `at` brings finds a place in the part t
-pub record FindsPlaces (t : Part) (at : ℕ) (f : Effect) : Type 0 where
+-- all that the effect f of the item i at place `at` brings finds a place in the part t
+pub record FindsPlaces (t : Part) (at : ℕ) (i : Item) (f : Effect) : Type 0 where
   -- "Rows are kept in order of age": all that f adds stand behind those that stood
   pub rows : held (applied t at f) ≡ held t ++ added_rows f.added
   -- of items of any kind g as many pend as before, without the stepped item and the wait that are used up, and with all that are
   -- written
-  pub items : (g : Item → Bool) → g Free ≡ false
-      → how_many_items g (applied t at f).items + tally g (item_at t.items at ∷ wait_items f.wait)
+  pub items : (g : Item → Bool)
+      → how_many_items g (applied t at f).items + tally g (i ∷ wait_items f.wait)
       ≡ how_many_items g t.items + tally g (items_of f.outcome)
 
 -- ---- what every list of calls keeps
@@ -162,11 +151,11 @@ pub record Holds (s : State) (t : Part) : Type 0 where
   pub data_items : how_many_items is_data_item t.items ≤ 12
   -- "16 places a session .. suffice": one is free; with the stepped item's own that makes two, enough for any rule
   pub item_places : length t.items ≡ 16
-  pub free_place : 1 ≤ how_many_items is_free t.items
+  pub free_place : 1 ≤ tally is_none t.items
   -- so every item finds a place: the one that an open or a send writes, and each of a step
-  pub written : (n : ℕ) (i : Item) (g : Item → Bool) → g Free ≡ false → how_many_items g (put_item t.items n i) ≡ how_many_items g t.items + tally g (i ∷ [])
-  pub stepped : (at : ℕ) → at < 16 → is_wait (item_at t.items at) ≡ false
-      → FindsPlaces t at (rule s.network (stands s.users false) t (item_at t.items at))
+  pub written : (n : ℕ) (i : Item) (g : Item → Bool) → how_many_items g (put_item t.items n i) ≡ how_many_items g t.items + tally g (i ∷ [])
+  pub stepped : (at : ℕ) (x : Slot) → slot_at t.items at ≡ Some x → is_wait x.item ≡ false
+      → FindsPlaces t at x.item (rule s.network (stands s.users false) t x.item)
   -- "and 32 rows": no more stand, and the two rows of a grant find a place
   pub row_places : length t.rows ≡ 32
   pub rows : t.session.rows + 2 * how_many_items is_grant t.items ≤ 32
@@ -177,9 +166,9 @@ pub record Holds (s : State) (t : Part) : Type 0 where
   -- "with 8 establishments begun, lost 6"
   pub begun : t.session.begun ≤ 8
   -- no packet has more hops left than it started with, and at out none has a header
-  pub packets : All (λ x. HoldsPacket x.item) t.items
+  pub packets : All (OfSlot (λ x. HoldsPacket x.item)) t.items
   -- "No Rep lacks its ewait, no ack its dwait"
-  pub waits : (at : ℕ) → Pends t.items (wait_of (item_at t.items at))
+  pub waits : (at : ℕ) (x : Slot) → slot_at t.items at ≡ Some x → Pends t.items (wait_of x.item)
   -- "no Disc reaches up"
   pub discs : how_many_items is_disc_off_wire t.items ≡ 0
   -- "from 1 to 1,000,000"
@@ -187,7 +176,7 @@ pub record Holds (s : State) (t : Part) : Type 0 where
   -- no two pending items have one number, and each has one that was issued
   pub numbers : (k : ℕ) → tally (is_numbered k) t.items ≤ cond (within 1 t.session.last.0 k) 1 0
   -- an unused session has no items, no rows and none begun
-  pub idle : unused t ≡ true → (how_many_items is_pending t.items ≡ 0) × (t.session.rows ≡ 0) × (t.session.begun ≡ 0)
+  pub idle : unused t ≡ true → (tally is_some t.items ≡ 0) × (t.session.rows ≡ 0) × (t.session.begun ≡ 0)
   -- users are the rows of all sessions that name the association, so they never come to either end of the table's numbers
   pub users : (out : Bool) (a q : ℕ) → are_nodes a q ≡ true → users_of s.users out a q ≡ rows_naming out a q s (up_from 0 8)
   pub few_users : (out : Bool) (a q : ℕ) → users_of s.users out a q ≤ 256

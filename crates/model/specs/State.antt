@@ -1,5 +1,5 @@
 -- The state: fresh, a session's part taken out and put back, and an effect applied to a part. Assumes nothing.
-use Rattle.std.specs.Prelude.{ℕ, ◌+◌, ◌*◌, ◌-◌, Bool, false, not, ◌&&◌, List, [], ◌∷◌, eqb, length, get_or, set, take, drop, replicate, Option, Some, None}
+use Rattle.std.specs.Prelude.{ℕ, ◌+◌, ◌*◌, ◌-◌, Bool, true, false, List, [], ◌∷◌, eqb, length, get_or, set, take, drop, replicate, Option, Some, None, is_none, option_map, option_and_then, position}
 use Rattle.std.proofs.lemmas.List.Edits.{sets}
 use Rattle.std.proofs.Math.Seq.{paste}
 use Rattle.calculus.specs.declared.answer.Answer as answer
@@ -9,21 +9,17 @@ use Rattle.calculus.specs.declared.effect.Outcome.TheVariants.{Wrote, WroteByDef
 use Rattle.calculus.specs.declared.effect.Wait.{Wait}
 use Rattle.calculus.specs.declared.effect.Effect.{Effect}
 use Rattle.calculus.specs.declared.packet.Item.{Item}
-use Rattle.calculus.specs.declared.packet.Item.TheVariants.{Free}
 use Rattle.calculus.specs.declared.packet.Slot.{Slot}
 use Rattle.calculus.specs.declared.session.Row.{Row}
 use Rattle.calculus.specs.declared.session.Session.{Session}
 use Rattle.calculus.specs.declared.session.Stage.{Stage}
 use Rattle.calculus.specs.declared.state.Part.{Part}
 use Rattle.calculus.specs.declared.state.State.{State}
-use Rattle.model.specs.Lists.{place}
 use Rattle.model.specs.Network.{no_node}
-use Rattle.model.specs.Item.{vacant, is_that_wait}
+use Rattle.model.specs.Item.{vacant, is_that_wait, of_item, slot_at}
+use Rattle.model.specs.Row.{no_peers}
 
 -- ---- fresh
-
-abbrev pub blank_slot : Slot
-blank_slot = record { number = record { 0 = 0 }; item = Free }
 
 abbrev pub blank_row : Row
 blank_row = record { node = 0; out = false; source = 0; destination = 0; peers = record { first = 0 }; establishment = 0 }
@@ -33,7 +29,7 @@ blank_session = record { stage = Stage.Unused; client = 0; server = 0; begun = 0
 
 -- the part of a session that was never open
 abbrev pub blank_part : Part
-blank_part = record { session = blank_session; items = replicate 16 blank_slot; rows = replicate 32 blank_row }
+blank_part = record { session = blank_session; items = replicate 16 None; rows = replicate 32 blank_row }
 
 -- "no node, no route and no users; every session is unused, with no items, no rows, none begun and last number 0"
 abbrev pub fresh : State
@@ -42,7 +38,7 @@ fresh =
       opened = false;
       network = record { nodes = replicate 32 no_node; routes = replicate 1056 0 };
       sessions = replicate 8 blank_session;
-      items = replicate 128 blank_slot;
+      items = replicate 128 None;
       rows = replicate 256 blank_row;
       users = replicate 2048 0;
     }
@@ -72,21 +68,31 @@ store s u t =
 -- ---- items
 
 -- an item is there, and its number is k
-abbrev pub is_numbered : ℕ → Slot → Bool
-is_numbered k s = not (vacant s) && eqb s.number.0 k
+abbrev pub is_numbered : ℕ → Option Slot → Bool
+is_numbered k None = false
+is_numbered k (Some s) = eqb s.number.0 k
 
-unfoldable pub use_up : List Slot → Option Wait → List Slot
+-- the pending item number k, with its place
+unfoldable pub found_item : ℕ → List (Option Slot) → Option (ℕ × Slot)
+found_item k l = option_and_then (λ at. option_map (λ s. (at, s)) (slot_at l at)) (position (is_numbered k) l)
+
+-- x in the place that was found, if one was
+abbrev pub set_found : {A : Type 0} → List A → Option ℕ → A → List A
+set_found l None x = l
+set_found l (Some at) x = set l at x
+
+unfoldable pub use_up : List (Option Slot) → Option Wait → List (Option Slot)
 use_up l None = l
-use_up l (Some w) = set l (place (λ s. is_that_wait w s.item) l) blank_slot
+use_up l (Some w) = set_found l (position (of_item (is_that_wait w)) l) None
 
 -- item i, with the number n, goes to the first free place; with none free it finds none, and SetUp states that this never is
-unfoldable pub put_item : List Slot → ℕ → Item → List Slot
-put_item l n i = set l (place vacant l) (record { number = record { 0 = n }; item = i })
+unfoldable pub put_item : List (Option Slot) → ℕ → Item → List (Option Slot)
+put_item l n i = set_found l (position is_none l) (Some (record { number = record { 0 = n }; item = i }))
 
 -- ---- an effect applied
 
 -- n being the last number, "the first named has the lower number"
-abbrev pub written : List Slot → ℕ → Outcome → List Slot
+abbrev pub written : List (Option Slot) → ℕ → Outcome → List (Option Slot)
 written l n (Wrote i) = put_item l (n + 1) i
 written l n (WroteByDefault i) = put_item l (n + 1) i
 written l n (WroteTwo i j) = put_item (put_item l (n + 1) i) (n + 2) j
@@ -137,8 +143,8 @@ abbrev pub placed : ℕ → Option (Row × Row) → List Row
 placed n f = take (32 - n) (added_rows f)
 
 -- "The stepped item is used up", and the wait; then come the items written
-unfoldable pub items_after : List Slot → ℕ → ℕ → Effect → List Slot
-items_after l n at f = written (use_up (set l at blank_slot) f.wait) n f.outcome
+unfoldable pub items_after : List (Option Slot) → ℕ → ℕ → Effect → List (Option Slot)
+items_after l n at f = written (use_up (set l at None) f.wait) n f.outcome
 
 unfoldable pub session_after : Session → Effect → Session
 session_after s f =

@@ -1,5 +1,6 @@
 -- Request #103: how many steps a set-up can take, and what is left in the end. Proved in proofs/Termination. Assumes nothing.
 use Rattle.std.specs.Prelude.{ℕ, ◌+◌, ◌*◌, ◌≤◌, ◌≡◌, Bool, true, false, cond, not, ◌&&◌, List, [], ◌∷◌, eqb, length}
+use Rattle.std.specs.Prelude as std
 use Rattle.std.proofs.Math.Option.{Option, none, some}
 use Rattle.calculus.specs.Number.{is_session}
 use Rattle.calculus.specs.declared.packet.Item.{Item}
@@ -8,14 +9,14 @@ use Rattle.calculus.specs.declared.state.Part.{Part}
 use Rattle.calculus.specs.declared.state.State.{State}
 use Rattle.forms.specs.Text.{Form, node, route, «open», step, send, close, show, net, take_down, text}
 use Rattle.forms.specs.Read.{read}
-use Rattle.model.specs.Lists.{place, All}
+use Rattle.model.specs.Lists.{All}
 use Rattle.model.specs.Packet.{hop_limit}
-use Rattle.model.specs.Item.{is_wait, how_many_items}
+use Rattle.model.specs.Item.{is_wait, how_many_items, OfSlot}
 use Rattle.model.specs.Rules.{establishment_limit}
-use Rattle.model.specs.State.{fresh, load, is_numbered}
+use Rattle.model.specs.State.{fresh, load, found_item}
 use Rattle.model.specs.Requests.{spent}
 use Rattle.model.specs.Calls.{answered, Call, roomy_call, call, is_accepted, after, is_own}
-use Rattle.model.specs.SetUp.{is_set_up_item, item_at}
+use Rattle.model.specs.SetUp.{is_set_up_item}
 
 -- ---- the ceiling
 
@@ -38,12 +39,17 @@ ceiling = establishment_limit * establishment_steps + establishment_limit * trip
 
 -- ---- the count
 
+-- a step of the item that was found, if one was, is counted
+abbrev pub is_counted : std.Option (ℕ × Slot) → Bool
+is_counted std.None = false
+is_counted (std.Some (at, s)) = is_set_up_item s.item
+
 -- what an accepted call of a session with the items l makes of its count n: "since its open on all items but Data"
-abbrev pub form_count : List Slot → ℕ → Option Form → ℕ
+abbrev pub form_count : List (std.Option Slot) → ℕ → Option Form → ℕ
 form_count l n (some (node a k has needs)) = n
 form_count l n (some (route a b next)) = n
 form_count l n (some («open» u c d)) = 0
-form_count l n (some (step u k)) = cond (is_set_up_item (item_at l (place (is_numbered k) l))) (n + 1) n
+form_count l n (some (step u k)) = cond (is_counted (found_item k l)) (n + 1) n
 form_count l n (some (send u w tag)) = n
 form_count l n (some (close u)) = n
 form_count l n (some show) = n
@@ -71,9 +77,10 @@ abbrev pub Settled : Part → Type 0
 Settled t = spent t ≡ false → how_many_items is_active t.items ≡ 0
 
 -- a step call of session u for each item that is neither a wait nor Data
-abbrev pub active_steps : ℕ → List Slot → List Call
+abbrev pub active_steps : ℕ → List (std.Option Slot) → List Call
 active_steps u [] = []
-active_steps u (x ∷ l) = cond (is_active x.item) (roomy_call (text (step u x.number.0)) ∷ active_steps u l) (active_steps u l)
+active_steps u (std.None ∷ l) = active_steps u l
+active_steps u (std.Some x ∷ l) = cond (is_active x.item) (roomy_call (text (step u x.number.0)) ∷ active_steps u l) (active_steps u l)
 
 -- the state after rounds: in each come calls of anyone, and then those items are stepped
 unfoldable pub after_rounds : ℕ → State → List (List Call) → State
@@ -110,7 +117,7 @@ pub record Terminates (cs : List Call) (u : ℕ) : Type 0 where
       let s = after fresh cs in
       let t = load s u in
       spent t ≡ false → (size : ℕ) → 65536 ≤ size
-      → All (λ x. is_active x.item ≡ true → (answered s (text (step u x.number.0)) size).refusal ≡ none) t.items
+      → All (OfSlot (λ x. is_active x.item ≡ true → (answered s (text (step u x.number.0)) size).refusal ≡ none)) t.items
   -- "so in the end only waits and Data items are left": after as many rounds as the ceiling leaves steps, whatever is called in them
   -- except an open of the session, which begins anew
   pub settles : (rounds : List (List Call)) → All (All (λ c. opens u c ≡ false)) rounds → ceiling ≤ set_up_steps u fresh 0 cs + length rounds
