@@ -11,12 +11,11 @@ use calculus::packet::Slot;
 use calculus::session::{Row, Session, Stage};
 use calculus::state::Part;
 use items::places::{put_item, use_up};
-use lookups::blank::blank_slot;
 use lookups::set::set_at;
 use lookups::users::raise;
 
 // Writes the outcome's items, `n` being the last number.
-fn write(items: &mut [Slot; 16], n: ItemNumber, o: &Outcome)
+fn write(items: &mut [Option<Slot>; 16], n: ItemNumber, o: &Outcome)
     requires { n.0 ≤ 999998 }
     ensures { items.new ≡ spec.written items.old n.0 o.now }
 {
@@ -106,11 +105,11 @@ pub fn users_after(users: &mut [u16; 2048], held: u8, added: Option<(Row, Row)>)
 
 // The item at `at` and the wait are used up, and the outcome's items written.
 #[tactic(auto, unfolding(model::specs::State::items_after))]
-fn apply_to_items(items: &mut [Slot; 16], n: ItemNumber, at: usize, f: &Effect)
+fn apply_to_items(items: &mut [Option<Slot>; 16], n: ItemNumber, at: usize, f: &Effect)
     requires { n.0 ≤ 999998 }
     ensures { items.new ≡ spec.items_after items.old n.0 at f.now }
 {
-    set_at(items, at, blank_slot());
+    set_at(items, at, None);
     use_up(items, f.wait);
     write(items, n, &f.outcome);
 }

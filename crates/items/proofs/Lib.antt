@@ -1,3 +1,3 @@
 -- Laws that belong to no one function.
-pub mod Walks
 pub mod Searches
+pub mod Counts

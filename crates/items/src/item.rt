@@ -1,27 +1,10 @@
-// What an item is: a wait, a packet with Data, or none; and the establishment that it names.
+// What an item is: a wait or a packet with Data; and the establishment that it names.
 ghost use Rattle.std.specs.Prelude.{◌≡◌};
 ghost use Rattle.model.specs.Item as spec;
 
 use crate::packet::{has_data, has_establishment};
 use calculus::effect::Wait;
 use calculus::packet::Item;
-
-pub fn is_free(i: Item) -> bool
-    ensures { result ≡ spec.is_free i }
-{
-    match i {
-        Item::Free => true,
-        Item::Wire(_, _) => false,
-        Item::Out(_, _) => false,
-        Item::Up(_, _) => false,
-        Item::Est(_, _, _) => false,
-        Item::Auth(_, _, _, _) => false,
-        Item::Grant(_, _, _, _) => false,
-        Item::Ack(_, _) => false,
-        Item::Dwait(_) => false,
-        Item::Ewait(_, _) => false,
-    }
-}
 
 // The wait that the item is.
 pub fn wait_in(i: Item) -> Option<Wait>
@@ -51,16 +34,8 @@ pub fn is_data_item(i: Item) -> bool
     ensures { result ≡ spec.is_data_item i }
 {
     match i {
-        Item::Free => false,
-        Item::Wire(_, p) => has_data(p),
-        Item::Out(_, p) => has_data(p),
-        Item::Up(_, p) => has_data(p),
-        Item::Est(_, _, _) => false,
-        Item::Auth(_, _, _, _) => false,
-        Item::Grant(_, _, _, _) => false,
-        Item::Ack(_, _) => false,
-        Item::Dwait(_) => false,
-        Item::Ewait(_, _) => false,
+        Item::Wire(_, p) | Item::Out(_, p) | Item::Up(_, p) => has_data(p),
+        _ => false,
     }
 }
 
@@ -69,15 +44,10 @@ pub fn names_establishment(i: Item, e: u8) -> bool
     ensures { result ≡ spec.names_establishment e i }
 {
     match i {
-        Item::Free => false,
-        Item::Wire(_, p) => has_establishment(p, e),
-        Item::Out(_, p) => has_establishment(p, e),
-        Item::Up(_, p) => has_establishment(p, e),
-        Item::Est(_, _, f) => f == e,
-        Item::Auth(_, _, f, _) => f == e,
-        Item::Grant(_, _, f, _) => f == e,
+        Item::Wire(_, p) | Item::Out(_, p) | Item::Up(_, p) => has_establishment(p, e),
+        Item::Est(_, _, f) | Item::Auth(_, _, f, _) | Item::Grant(_, _, f, _) => f == e,
         Item::Ack(_, f) => f == e,
-        Item::Dwait(_) => false,
         Item::Ewait(_, f) => f == e,
+        Item::Dwait(_) => false,
     }
 }

@@ -1,152 +1,119 @@
 // The sixteen places that hold a session's items.
-ghost use Rattle.std.specs.Prelude.{◌≡◌, cond, ◌+◌, ◌≤◌, leb, ltb};
-ghost use Rattle.model.specs.Lists as lists;
+ghost use Rattle.std.specs.Prelude.{◌≡◌, count_by, is_none, leb, ltb, position};
+ghost use Rattle.std.specs.List.{list_any};
 ghost use Rattle.model.specs.Item as spec;
 ghost use Rattle.model.specs.State as state;
-ghost use Rattle.items.specs.Wanted.{is_wanted};
 
-use crate::item::{is_data_item, is_free, is_that_wait, names_establishment};
+use crate::item::{is_data_item, is_that_wait, names_establishment};
 use calculus::effect::Wait;
 use calculus::number::ItemNumber;
 use calculus::packet::{Item, Slot};
-use lookups::blank::blank_slot;
 use lookups::set::set_at;
 
 // ---- one place
 
-fn is_vacant(s: Slot) -> bool
-    ensures { result ≡ spec.vacant s }
-{
-    let item = s.item;
-    is_free(item)
-}
-
-fn is_numbered(k: ItemNumber, s: Slot) -> bool
+fn is_numbered(s: Option<Slot>, k: ItemNumber) -> bool
     ensures { result ≡ state.is_numbered k.0 s }
 {
-    if is_vacant(s) {
-        return false;
-    }
-    let number = s.number;
-    number.0 == k.0
+    s.is_some_and(|s| s.number.0 == k.0)
 }
 
-fn holds_wait(w: Wait, s: Slot) -> bool
-    ensures { result ≡ spec.is_that_wait w s.item }
+fn holds_wait(s: Option<Slot>, w: Wait) -> bool
+    ensures { result ≡ spec.of_item (spec.is_that_wait w) s }
 {
-    is_that_wait(w, s.item)
+    s.is_some_and(|s| is_that_wait(w, s.item))
 }
 
-fn holds_data(s: Slot) -> bool
-    ensures { result ≡ spec.is_data_item s.item }
+fn holds_data(s: Option<Slot>) -> bool
+    ensures { result ≡ spec.of_item spec.is_data_item s }
 {
-    let item = s.item;
-    is_data_item(item)
+    s.is_some_and(|s| is_data_item(s.item))
 }
 
-fn slot_names(s: Slot, e: u8) -> bool
-    ensures { result ≡ spec.names_establishment e s.item }
+fn holds_name(s: Option<Slot>, e: u8) -> bool
+    ensures { result ≡ spec.of_item (spec.names_establishment e) s }
 {
-    let item = s.item;
-    names_establishment(item, e)
-}
-
-// `n`, and one more where the place holds a packet with Data.
-fn count_one(n: usize, s: Slot) -> usize
-    requires { n ≤ 15 }
-    ensures { result ≡ n + cond (spec.is_data_item s.item) 1 0 }
-{
-    if holds_data(s) {
-        return n + 1;
-    }
-    n
-}
-
-// What is looked for among a session's places: a free one, that of an item's number, that of a wait.
-#[derive(Clone, Copy)]
-pub enum Wanted {
-    Vacancy,
-    Number(ItemNumber),
-    That(Wait),
-}
-
-fn is_wanted(w: Wanted, s: Slot) -> bool
-    ensures { result ≡ is_wanted w s }
-{
-    match w {
-        Wanted::Vacancy => is_vacant(s),
-        Wanted::Number(k) => is_numbered(k, s),
-        Wanted::That(wait) => holds_wait(wait, s),
-    }
+    s.is_some_and(|s| names_establishment(s.item, e))
 }
 
 // ---- sixteen places
 
-// The first place that is wanted, or 16.
-pub fn find(items: [Slot; 16], w: Wanted) -> usize
-    ensures { result ≡ lists.place (is_wanted w) items }
+// The first free place.
+fn vacancy(items: &[Option<Slot>; 16]) -> Option<usize>
+    ensures { result ≡ position is_none items.now }
 {
-    let mut i: usize = 0;
-    while i < 16 {
-        let slot = items[i];
-        if is_wanted(w, slot) {
-            return i;
-        }
-        i += 1;
-    }
-    i
+    items.iter().position(|s| s.is_none())
 }
 
-// Whether 12 or more are packets with Data. The walk goes by what it counts: one that always makes sixteen turns is unrolled by the
-// compiler, and then every part is moved place by place.
-pub fn is_full(items: [Slot; 16]) -> bool
-    ensures { result ≡ leb 12 (spec.how_many_items spec.is_data_item items) }
+// The first place with the number `k`.
+fn place_of(items: &[Option<Slot>; 16], k: ItemNumber) -> Option<usize>
+    ensures { result ≡ position (state.is_numbered k.0) items.now }
 {
-    let mut n: usize = 0;
-    let mut i: usize = 0;
-    while n < 12 {
-        if 16 <= i {
-            return false;
-        }
-        let slot = items[i];
-        n = count_one(n, slot);
-        i += 1;
-    }
-    true
+    items.iter().position(|s| is_numbered(*s, k))
 }
 
-// Whether an item names establishment `e`. A walk of its own: as one more thing that `find` is asked for, it would have the compiler
-// unroll the walk of every step.
-pub fn is_busy(items: [Slot; 16], e: u8) -> bool
-    ensures { result ≡ ltb 0 (spec.how_many_items (spec.names_establishment e) items) }
+// The first place with the wait.
+fn wait_place(items: &[Option<Slot>; 16], w: Wait) -> Option<usize>
+    ensures { result ≡ position (spec.of_item (spec.is_that_wait w)) items.now }
 {
-    let mut i: usize = 0;
-    while i < 16 {
-        let slot = items[i];
-        if slot_names(slot, e) {
-            return true;
-        }
-        i += 1;
-    }
-    false
+    items.iter().position(|s| holds_wait(*s, w))
+}
+
+// How many places hold a packet with Data.
+fn data_items(items: &[Option<Slot>; 16]) -> usize
+    ensures { result ≡ count_by (spec.of_item spec.is_data_item) items.now }
+{
+    items.iter().filter(|s| holds_data(**s)).count()
+}
+
+// Whether 12 or more are packets with Data.
+#[tactic(auto, using(crate::proofs::Counts::count_tally))]
+pub fn is_full(items: &[Option<Slot>; 16]) -> bool
+    ensures { result ≡ leb 12 (spec.how_many_items spec.is_data_item items.now) }
+{
+    12 <= data_items(items)
+}
+
+fn any_names(items: &[Option<Slot>; 16], e: u8) -> bool
+    ensures { result ≡ list_any (spec.of_item (spec.names_establishment e)) items.now }
+{
+    items.iter().any(|s| holds_name(*s, e))
+}
+
+// Whether an item names establishment `e`.
+#[tactic(auto, using(crate::proofs::Counts::any_tally))]
+pub fn is_busy(items: &[Option<Slot>; 16], e: u8) -> bool
+    ensures { result ≡ ltb 0 (spec.how_many_items (spec.names_establishment e) items.now) }
+{
+    any_names(items, e)
+}
+
+// The pending item number `k`, with its place.
+#[tactic(auto, using(crate::proofs::Counts::place_below), unfolding(model::specs::State::found_item))]
+pub fn find(items: &[Option<Slot>; 16], k: ItemNumber) -> Option<(usize, Slot)>
+    ensures { result ≡ state.found_item k.0 items.now }
+{
+    let at = place_of(items, k)?;
+    let slot = items[at]?;
+    Some((at, slot))
 }
 
 // The wait is used up, if there is one.
 #[tactic(auto, unfolding(model::specs::State::use_up))]
-pub fn use_up(items: &mut [Slot; 16], w: Option<Wait>)
+pub fn use_up(items: &mut [Option<Slot>; 16], w: Option<Wait>)
     ensures { items.new ≡ state.use_up items.old w }
 {
-    if let Some(wait) = w {
-        let at = find(*items, Wanted::That(wait));
-        set_at(items, at, blank_slot());
+    if let Some(wait) = w && let Some(at) = wait_place(items, wait) {
+        set_at(items, at, None);
     }
 }
 
 // Item `i`, with the number `n`, goes to the first free place, if there is one.
 #[tactic(auto, unfolding(model::specs::State::put_item))]
-pub fn put_item(items: &mut [Slot; 16], n: ItemNumber, i: Item)
+pub fn put_item(items: &mut [Option<Slot>; 16], n: ItemNumber, i: Item)
     ensures { items.new ≡ state.put_item items.old n.0 i }
 {
-    let at = find(*items, Wanted::Vacancy);
-    set_at(items, at, Slot { number: n, item: i });
+    if let Some(at) = vacancy(items) {
+        set_at(items, at, Some(Slot { number: n, item: i }));
+    }
 }

@@ -3,18 +3,8 @@ ghost use Rattle.std.specs.Prelude.{◌≡◌};
 ghost use Rattle.model.specs.State as spec;
 
 use calculus::number::ItemNumber;
-use calculus::packet::{Item, Slot};
 use calculus::session::{Peers, Row, Session, Stage};
 use calculus::state::Part;
-
-pub fn blank_slot() -> Slot
-    ensures { result ≡ spec.blank_slot }
-{
-    Slot {
-        number: ItemNumber(0),
-        item: Item::Free,
-    }
-}
 
 pub fn blank_row() -> Row
     ensures { result ≡ spec.blank_row }
@@ -33,7 +23,6 @@ pub fn blank_row() -> Row
 pub fn blank_part() -> Part
     ensures { result ≡ spec.blank_part }
 {
-    let slot = blank_slot();
     let row = blank_row();
     Part {
         session: Session {
@@ -44,7 +33,7 @@ pub fn blank_part() -> Part
             rows: 0,
             last: ItemNumber(0),
         },
-        items: [slot; 16],
+        items: [None; 16],
         rows: [row; 32],
     }
 }

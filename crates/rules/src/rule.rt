@@ -24,14 +24,7 @@ fn auth_at(n: &Network, a: u8, q: u8, e: u8, side: Side) -> Effect
     auth(has_all_needed(n, a, q), a, q, e, side)
 }
 
-// A free place and a wait have no rule: a step of one is refused before.
-fn never_met() -> Effect
-    ensures { result ≡ spec.never_met }
-{
-    lost(Loss::WrongTunnel)
-}
-
-// What the item's rule does, for the session whose part is `t`.
+// What the item's rule does, for the session whose part is `t`. A wait has none: a step of one is refused before.
 #[tactic(auto, unfolding(model::specs::Rules::rule))]
 pub fn rule(n: &Network, users: &[u16; 2048], t: &Part, i: Item) -> Effect
     ensures { result ≡ spec.rule n.now (row.stands users.now false) t.now i }
@@ -45,6 +38,6 @@ pub fn rule(n: &Network, users: &[u16; 2048], t: &Part, i: Item) -> Effect
         Item::Auth(a, q, e, side) => auth_at(n, a, q, e, side),
         Item::Grant(a, q, e, side) => grant(s, a, q, e, side),
         Item::Ack(a, _) => ack(s, a),
-        Item::Free | Item::Dwait(_) | Item::Ewait(_, _) => never_met(),
+        Item::Dwait(_) | Item::Ewait(_, _) => lost(Loss::WrongTunnel),
     }
 }

@@ -9,14 +9,14 @@ ghost use Rattle.model.specs.Turn.{moving, Moves};
 use calculus::answer::{Answer, Refusal};
 use calculus::network::Network;
 use calculus::number::ItemNumber;
-use calculus::packet::{Item, Payload};
+use calculus::packet::{Item, Payload, Slot};
 use calculus::request::Sender;
 use calculus::session::{Session, Stage};
 use calculus::state::{Moved, Part};
 use effects::moves::{refused, stepped};
 use items::item::is_wait;
 use items::packet::bare;
-use items::places::{Wanted, find, is_busy, is_full, put_item};
+use items::places::{find, is_busy, is_full, put_item};
 use lookups::network::{given, is_gateway};
 use lookups::users::lower;
 use rows::picked::picked;
@@ -118,36 +118,31 @@ pub fn open(n: &Network, t: Part, c: u8, d: u8) -> Moved
 
 // ---- step
 
-// A step of the item at `at`, or of none where that is past the places: refusals 7, 11, 12, 10.
+// The same of the item that was found in its place, or of none: refusals 7, 11, 12, 10.
 #[tactic(auto, unfolding(model::specs::Requests::step_at, model::specs::Requests::checked))]
-fn step_at(n: &Network, users: &mut [u16; 2048], t: Part, at: usize) -> Moved
-    ensures { Moves users.old t (spec.step_at n.now (stands users.old false) t at) users.new result }
+fn step_at(n: &Network, users: &mut [u16; 2048], t: Part, found: Option<(usize, Slot)>) -> Moved
+    ensures { Moves users.old t (spec.step_at n.now (stands users.old false) t found) users.new result }
 {
-    let s = t.session;
-    let stage = s.stage;
-    let items = t.items;
-    if is_unused(stage) {
+    if is_unused(t.session.stage) {
         return refused(t, Refusal::Idle);
     }
-    if 16 <= at {
+    let Some((at, slot)) = found else {
         return refused(t, Refusal::NoItem);
-    }
-    let slot = items[at];
-    let item = slot.item;
-    if is_wait(item) {
+    };
+    if is_wait(slot.item) {
         return refused(t, Refusal::Waiting);
     }
-    let effect = rule(n, users, t, item);
+    let effect = rule(n, users, &t, slot.item);
     stepped(users, t, at, effect)
 }
 
 // step u k, where `t` is u's part.
+#[tactic(auto, unfolding(model::specs::Requests::step_move))]
 pub fn step(n: &Network, users: &mut [u16; 2048], t: Part, k: ItemNumber) -> Moved
     ensures { Moves users.old t (spec.step_move n.now (stands users.old false) k.0 t) users.new result }
 {
-    let items = t.items;
-    let at = find(items, Wanted::Number(k));
-    step_at(n, users, t, at)
+    let found = find(&t.items, k);
+    step_at(n, users, t, found)
 }
 
 // ---- send
@@ -184,11 +179,10 @@ pub fn send(t: Part, w: Sender, tag: u32) -> Moved
     let s = t.session;
     let stage = s.stage;
     let last = s.last;
-    let items = t.items;
     if is_unused(stage) {
         return refused(t, Refusal::Idle);
     }
-    if is_full(items) {
+    if is_full(&t.items) {
         return refused(t, Refusal::Full);
     }
     if 999998 < last.0 {
@@ -278,12 +272,11 @@ pub fn drop(users: &mut [u16; 2048], t: Part, e: u8) -> Moved
 {
     let s = t.session;
     let stage = s.stage;
-    let items = t.items;
     let rows = t.rows;
     if is_unused(stage) {
         return refused(t, Refusal::Idle);
     }
-    if is_busy(items, e) {
+    if is_busy(&t.items, e) {
         return refused(t, Refusal::Busy);
     }
     let gone = picked(true, e, rows, s.rows);

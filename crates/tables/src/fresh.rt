@@ -6,7 +6,7 @@ use calculus::network::Network;
 use calculus::number::ItemNumber;
 use calculus::session::{Session, Stage};
 use calculus::state::State;
-use lookups::blank::{blank_row, blank_slot};
+use lookups::blank::blank_row;
 use lookups::network::no_node;
 
 // No node, no route, no users; every session unused.
@@ -22,7 +22,6 @@ pub fn fresh() -> State
         rows: 0,
         last: ItemNumber(0),
     };
-    let slot = blank_slot();
     let row = blank_row();
     State {
         opened: false,
@@ -31,7 +30,7 @@ pub fn fresh() -> State
             routes: [0; 1056],
         },
         sessions: [session; 8],
-        items: [slot; 128],
+        items: [None; 128],
         rows: [row; 256],
         users: [0; 2048],
     }

@@ -6,15 +6,14 @@ ghost use Rattle.model.specs.State as spec;
 use calculus::packet::Slot;
 use calculus::session::Row;
 use calculus::state::{Part, State};
-use lookups::blank::{blank_row, blank_slot};
+use lookups::blank::blank_row;
 
-fn load_items(all: [Slot; 128], at: usize) -> [Slot; 16]
+fn load_items(all: [Option<Slot>; 128], at: usize) -> [Option<Slot>; 16]
     requires { at < 8 }
     ensures { result ≡ take 16 (drop (16 * at) all) }
 {
-    let blank = blank_slot();
     let base = 16 * at;
-    let mut part = [blank; 16];
+    let mut part = [None; 16];
     let mut i: usize = 0;
     while i < 16 {
         part[i] = all[base + i];
@@ -23,7 +22,7 @@ fn load_items(all: [Slot; 128], at: usize) -> [Slot; 16]
     part
 }
 
-fn store_items(all: [Slot; 128], at: usize, part: [Slot; 16]) -> [Slot; 128]
+fn store_items(all: [Option<Slot>; 128], at: usize, part: [Option<Slot>; 16]) -> [Option<Slot>; 128]
     requires { at < 8 }
     ensures { result ≡ paste all (16 * at) part 16 }
 {

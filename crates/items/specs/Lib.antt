@@ -1,2 +1,0 @@
--- What the contracts of `items` cite beside the model.
-pub mod Wanted
