@@ -103,7 +103,9 @@ pub fn find(items: &[Option<Slot>; 16], k: ItemNumber) -> Option<(usize, Slot)>
 pub fn use_up(items: &mut [Option<Slot>; 16], w: Option<Wait>)
     ensures { items.new ≡ state.use_up items.old w }
 {
-    if let Some(wait) = w && let Some(at) = wait_place(items, wait) {
+    if let Some(wait) = w
+        && let Some(at) = wait_place(items, wait)
+    {
         set_at(items, at, None);
     }
 }
