@@ -1,8 +1,12 @@
 -- Numbers in range, the end that a number names, and the SPI of a pair of nodes. `number.rt` and `request.rt` cite it. Assumes nothing.
-use Rattle.std.specs.Prelude.{ℕ, ◌+◌, ◌*◌, ◌-◌, Bool, cond, ◌&&◌, leb, eqb}
+use Rattle.std.specs.Prelude.{ℕ, ◌+◌, ◌*◌, ◌-◌, Bool, cond, ◌&&◌, Result, Ok, Err, leb, eqb}
 use Rattle.calculus.specs.declared.request.Sender.{Sender}
 use Rattle.calculus.specs.declared.request.Sender.TheVariants.{Client, Server}
 use Rattle.calculus.specs.declared.number.Spi.{Spi}
+use Rattle.calculus.specs.declared.number.SessionNumber.{SessionNumber}
+use Rattle.calculus.specs.declared.number.ItemNumber.{ItemNumber}
+use Rattle.calculus.specs.declared.answer.Refusal.{Refusal}
+use Rattle.calculus.specs.declared.answer.Refusal.TheVariants.{Range}
 
 -- n is low to high
 abbrev pub within : ℕ → ℕ → ℕ → Bool
@@ -35,6 +39,16 @@ is_tag = within 0 4294967295
 -- "send u 0 tag" is the client's, "with 1" the server's
 abbrev pub sender_of : ℕ → Sender
 sender_of w = cond (eqb w 0) Client Server
+
+-- what a number names, or refusal 2, "a number out of range"
+abbrev pub session_number : ℕ → Result SessionNumber Refusal
+session_number n = cond (is_session n) (Ok (record { 0 = n })) (Err Range)
+
+abbrev pub item_number : ℕ → Result ItemNumber Refusal
+item_number n = cond (is_item n) (Ok (record { 0 = n })) (Err Range)
+
+abbrev pub sender : ℕ → Result Sender Refusal
+sender w = cond (within 0 1 w) (Ok (sender_of w)) (Err Range)
 
 -- "The SPI of what a receives from b", of In(a, b) and of Out(b, a); 0, which is reserved, unless both are nodes
 abbrev pub spi : ℕ → ℕ → Spi

@@ -2,6 +2,8 @@
 ghost use Rattle.std.specs.Prelude.{◌≡◌, ◌-◌};
 ghost use Rattle.calculus.specs.Number as spec;
 
+use crate::answer::Refusal;
+
 // Whether `n` is `low` to `high`.
 pub fn within(n: u64, low: u64, high: u64) -> bool
     ensures { result ≡ spec.within low high n }
@@ -62,9 +64,39 @@ pub fn pred(n: u8) -> u8
 #[derive(Clone, Copy)]
 pub struct SessionNumber(pub u8);
 
+// A session's number, or refusal 2.
+impl TryFrom<u64> for SessionNumber {
+    type Error = Refusal;
+
+    fn try_from(n: u64) -> Result<SessionNumber, Refusal>
+        ensures { result ≡ spec.session_number n }
+    {
+        if is_session(n) {
+            Ok(SessionNumber(n as u8))
+        } else {
+            Err(Refusal::Range)
+        }
+    }
+}
+
 // An item of one session, 1 to 1,000,000; 0 is no item's.
 #[derive(Clone, Copy)]
 pub struct ItemNumber(pub u32);
+
+// An item's number, or refusal 2.
+impl TryFrom<u64> for ItemNumber {
+    type Error = Refusal;
+
+    fn try_from(n: u64) -> Result<ItemNumber, Refusal>
+        ensures { result ≡ spec.item_number n }
+    {
+        if is_item(n) {
+            Ok(ItemNumber(n as u32))
+        } else {
+            Err(Refusal::Range)
+        }
+    }
+}
 
 // A security parameters index. 0 to 255 are reserved.
 #[derive(Clone, Copy, PartialEq, Eq)]

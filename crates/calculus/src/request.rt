@@ -1,9 +1,10 @@
 // A call's request, its numbers in range.
 ghost use Rattle.std.specs.Prelude.{◌≡◌};
-ghost use Rattle.calculus.specs.Number.{sender_of};
+ghost use Rattle.calculus.specs.Number.{sender, sender_of};
 
+use crate::answer::Refusal;
 use crate::network::Kind;
-use crate::number::{ItemNumber, SessionNumber};
+use crate::number::{ItemNumber, SessionNumber, within};
 
 // Which end of a session sends.
 #[derive(Clone, Copy)]
@@ -25,10 +26,30 @@ impl Sender {
     }
 }
 
-// A node's credentials stand beside its request: an enum holds no array.
+// The end that a number names, or refusal 2.
+impl TryFrom<u64> for Sender {
+    type Error = Refusal;
+
+    fn try_from(which: u64) -> Result<Sender, Refusal>
+        ensures { result ≡ sender which }
+    {
+        if within(which, 0, 1) {
+            Ok(Sender::numbered(which))
+        } else {
+            Err(Refusal::Range)
+        }
+    }
+}
+
+// A node has its credentials: a place for each, true where it is in the set.
 #[derive(Clone, Copy)]
 pub enum Request {
-    Node(u8, Kind),
+    Node {
+        node: u8,
+        kind: Kind,
+        has: [bool; 64],
+        needs: [bool; 64],
+    },
     Route {
         at: u8,
         destination: u8,
@@ -39,11 +60,20 @@ pub enum Request {
         client: u8,
         server: u8,
     },
-    Step(SessionNumber, ItemNumber),
-    Send(SessionNumber, Sender, u32),
+    Step {
+        session: SessionNumber,
+        item: ItemNumber,
+    },
+    Send {
+        session: SessionNumber,
+        sender: Sender,
+        tag: u32,
+    },
     Close(SessionNumber),
-    // with the establishment's number
-    Drop(SessionNumber, u8),
+    Drop {
+        session: SessionNumber,
+        establishment: u8,
+    },
     Show,
     Net,
 }

@@ -10,7 +10,7 @@ use calculus::network::Kind;
 use calculus::number::{ItemNumber, Spi};
 use calculus::request::{Request, Sender};
 use forms::line::next_line;
-use forms::read::{Parsed, read};
+use forms::read::read;
 use std::io::{self, Print, Read};
 
 fn put(rt: &HostRuntime, word: &[u8]) -> io::Result<()> {
@@ -69,7 +69,7 @@ fn put_three(rt: &HostRuntime, word: &[u8], a: u8, b: u8, c: u8) -> io::Result<(
 
 fn put_request(rt: &HostRuntime, request: Request) -> io::Result<()> {
     match request {
-        Request::Node(node, kind) => put_node(rt, node, kind),
+        Request::Node { node, kind, .. } => put_node(rt, node, kind),
         Request::Route {
             at,
             destination,
@@ -80,19 +80,26 @@ fn put_request(rt: &HostRuntime, request: Request) -> io::Result<()> {
             client,
             server,
         } => put_three(rt, b"open", session.0, client, server),
-        Request::Step(session, item) => {
+        Request::Step { session, item } => {
             put(rt, b"step")?;
             put_number(rt, session.0 as u64)?;
             put_number(rt, item.0 as u64)
         }
-        Request::Send(session, sender, tag) => put_send(rt, session.0, sender, tag),
+        Request::Send {
+            session,
+            sender,
+            tag,
+        } => put_send(rt, session.0, sender, tag),
         Request::Close(session) => {
             put(rt, b"close")?;
             put_number(rt, session.0 as u64)
         }
         Request::Show => put(rt, b"show"),
         Request::Net => put(rt, b"net"),
-        Request::Drop(session, establishment) => {
+        Request::Drop {
+            session,
+            establishment,
+        } => {
             put(rt, b"drop")?;
             put_number(rt, session.0 as u64)?;
             put_number(rt, establishment as u64)
@@ -100,21 +107,26 @@ fn put_request(rt: &HostRuntime, request: Request) -> io::Result<()> {
     }
 }
 
+// The sets that a request gives; they are empty where it is not a node's.
+fn credentials_of(request: Request) -> ([bool; 64], [bool; 64]) {
+    match request {
+        Request::Node { has, needs, .. } => (has, needs),
+        _ => ([false; 64], [false; 64]),
+    }
+}
+
 // A line, and what it asks.
 fn put_line(rt: &HostRuntime, line: &[u8]) -> io::Result<()> {
     put(rt, line)?;
     put(rt, b" -> ")?;
-    let reading = read(line);
-    let parsed = reading.parsed;
-    match parsed {
-        Parsed::Asks(request) => {
-            let has = reading.has;
-            let needs = reading.needs;
+    match read(line) {
+        Ok(request) => {
             put_request(rt, request)?;
+            let (has, needs) = credentials_of(request);
             put_credentials(rt, b" (has", has)?;
             put_credentials(rt, b" (needs", needs)?;
         }
-        Parsed::Refused(refusal) => {
+        Err(refusal) => {
             put(rt, b"refusal")?;
             put_number(rt, refusal.number() as u64)?;
         }

@@ -5,14 +5,14 @@ use Prim.Native.String.{String}
 use lib.ListN.{replicate}
 use mathlib.Core.Bool.{false}
 use mathlib.Core.Option.{none, some}
-use Rattle.std.specs.Prelude.{Some, None}
-use Rattle.calculus.specs.declared.answer.Answer.TheVariants.{Ok, Made, MadeByDefault, MadeTwo, Lost, Delivered, No}
+use Rattle.std.specs.Prelude.{Some, None, Ok, Err}
+use Rattle.calculus.specs.declared.answer.Answer.TheVariants as answer
+use Rattle.calculus.specs.declared.answer.Answer.TheVariants.{Made, MadeByDefault, MadeTwo, Lost, Delivered, No}
 use Rattle.calculus.specs.declared.answer.Loss.TheVariants.{HopLimit}
 use Rattle.calculus.specs.declared.answer.Refusal.TheVariants.{Waiting, Range, Busy, NoSuchTunnel}
 use Rattle.calculus.specs.declared.network.Kind.TheVariants.{Host, Gateway}
 use Rattle.calculus.specs.declared.request.Request.TheVariants.{Route, Step, Drop}
 use Rattle.calculus.specs.Number.{spi}
-use Rattle.forms.specs.declared.read.Parsed.TheVariants.{Asks, Refused}
 use Rattle.forms.specs.Bytes.{bytes, decimal, digits_of}
 use Rattle.forms.specs.Text.{Form, node, route, «open», step, send, close, show, net, take_down, list_text, text}
 use Rattle.forms.specs.Read.{starts, scan, number, list, fields, has_at, kind_at, node_at, plain_form, form_of, read}
@@ -47,22 +47,22 @@ near_misses = refl
 
 -- ---- in range, and out of range
 
-in_range_lem : map (λ f. (asked (some f)).parsed) (step 8 1000000 ∷ route 2 0 3 ∷ take_down 8 8 ∷ take_down 1 1 ∷ [])
-    ≡ Asks (Step (record { 0 = 8 }) (record { 0 = 1000000 })) ∷ Asks (Route 2 0 3) ∷ Asks (Drop (record { 0 = 8 }) 8) ∷ Asks (Drop (record { 0 = 1 }) 1) ∷ []
+in_range_lem : map (λ f. asked (some f)) (step 8 1000000 ∷ route 2 0 3 ∷ take_down 8 8 ∷ take_down 1 1 ∷ [])
+    ≡ Ok (Step (record { 0 = 8 }) (record { 0 = 1000000 })) ∷ Ok (Route 2 0 3) ∷ Ok (Drop (record { 0 = 8 }) 8) ∷ Ok (Drop (record { 0 = 1 }) 1) ∷ []
 in_range_lem = refl
 
-out_of_range : map (λ f. (asked (some f)).parsed) (step 9 1 ∷ step 1 0 ∷ step 1 1000001 ∷ send 1 2 0 ∷ take_down 0 1 ∷ take_down 9 1 ∷ take_down 1 0 ∷ take_down 1 9 ∷ node 33 Host [] [] ∷ node 1 Host (5 ∷ 5 ∷ []) [] ∷ [])
-    ≡ replicate 10 (Refused Range)
+out_of_range : map (λ f. asked (some f)) (step 9 1 ∷ step 1 0 ∷ step 1 1000001 ∷ send 1 2 0 ∷ take_down 0 1 ∷ take_down 9 1 ∷ take_down 1 0 ∷ take_down 1 9 ∷ node 33 Host [] [] ∷ node 1 Host (5 ∷ 5 ∷ []) [] ∷ [])
+    ≡ replicate 10 (Err Range)
 out_of_range = refl
 
 -- 0 is no node's, and a destination in a route alone
-no_node_0 : map (λ f. (asked (some f)).parsed) (node 0 Host [] [] ∷ route 0 1 2 ∷ route 1 2 0 ∷ «open» 1 0 2 ∷ «open» 1 2 0 ∷ [])
-    ≡ replicate 5 (Refused Range)
+no_node_0 : map (λ f. asked (some f)) (node 0 Host [] [] ∷ route 0 1 2 ∷ route 1 2 0 ∷ «open» 1 0 2 ∷ «open» 1 2 0 ∷ [])
+    ≡ replicate 5 (Err Range)
 no_node_0 = refl
 
 -- ---- answers
 
-answers : map answer_text (Ok ∷ Made (record { 0 = 3 }) ∷ MadeByDefault (record { 0 = 5 }) ∷ MadeTwo (record { 0 = 3 }) (record { 0 = 4 }) ∷ Lost HopLimit ∷ Delivered 77 ∷ No Waiting ∷ No Busy ∷ No NoSuchTunnel ∷ [])
+answers : map answer_text (answer.Ok ∷ Made (record { 0 = 3 }) ∷ MadeByDefault (record { 0 = 5 }) ∷ MadeTwo (record { 0 = 3 }) (record { 0 = 4 }) ∷ Lost HopLimit ∷ Delivered 77 ∷ No Waiting ∷ No Busy ∷ No NoSuchTunnel ∷ [])
     ≡ map bytes ("(ok)\n" ∷ "(made 3)\n" ∷ "(made 5 default)\n" ∷ "(made 3 4)\n" ∷ "(lost 2)\n" ∷ "(delivered 77)\n" ∷ "(no 12)\n" ∷ "(no 16)\n" ∷ "(no 17)\n" ∷ [])
 unfolding answer_text list_text decimal digits_of
 answers = refl

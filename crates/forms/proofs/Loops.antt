@@ -11,35 +11,12 @@ use lib.Dec.{eqb}
 use lib.ListN.{length, get_or, drop, drop_of_length-le}
 use lib.Seq.{drop-cons}
 use Rattle.calculus.proofs.Tests.{within_bounds}
-use Rattle.forms.specs.declared.scan.Number.TheVariants.{Found, Missing}
+use Rattle.std.specs.Prelude.{Some, None}
 use Rattle.forms.specs.Read.{starts, is_digit, scan, number}
 
 -- a list from place i on, by its first element
 pub drop_next : (l : List ℕ) (i : ℕ) → i < length l → drop i l ≡ get_or l i 0 ∷ drop (i + 1) l
 drop_next l i h = rw (add-one, drop-cons l i 0)
-
--- the first i bytes of w are those of s
-pub record Matched (w s : List ℕ) (i : ℕ) : Type 0 where
-  pub inside : i ≤ length w
-  pub same : starts w s ≡ starts (drop i w) (drop i s)
-
-module _ {w s : List ℕ} {i : ℕ} (m : Matched w s i) where
-  pub matched_more : i < length w → i < length s → get_or w i 0 ≡ get_or s i 0 → Matched w s (i + 1)
-  unfolding starts
-  matched_more h g e =
-      record { inside = omega arith; same = m.same ∙ rw (drop-cons w i 0 h, drop-cons s i 0 g, eq-eqb (get_or w i 0) (get_or s i 0) e, add-one) }
-
-  pub matched_short : i < length w → length s ≤ i → false ≡ starts w s
-  unfolding starts
-  matched_short h g = sym (m.same ∙ rw (drop-cons w i 0 h, drop_of_length-le s g))
-
-  pub matched_differ : i < length w → i < length s → (get_or w i 0 ≡ get_or s i 0 → ⊥) → false ≡ starts w s
-  unfolding starts
-  matched_differ h g e = sym (m.same ∙ rw (drop-cons w i 0 h, drop-cons s i 0 g, ne_eqb (get_or w i 0) (get_or s i 0) e))
-
-  pub matched_all : length w ≤ i → true ≡ starts w s
-  unfolding starts
-  matched_all h = sym (m.same ∙ rw (drop_of_length-le w h))
 
 -- ---- one byte at a place
 
@@ -70,15 +47,15 @@ module _ {l : List ℕ} {first v i : ℕ} (m : Scanned l first v i) where
         same = m.same ∙ rw (drop-cons l i 0 h, d, lt-ltb i 10 g) (rw add-one);
       }
 
-  pub scanned_long : i < length l → is_digit (get_or l i 0) ≡ true → 10 ≤ i → Missing ≡ scan 10 first 1 (drop 1 l)
+  pub scanned_long : i < length l → is_digit (get_or l i 0) ≡ true → 10 ≤ i → None ≡ scan 10 first 1 (drop 1 l)
   unfolding scan
   scanned_long h d g = sym (m.same ∙ rw (drop-cons l i 0 h, d, le-ltb i 10 g))
 
-  pub scanned_other : i < length l → is_digit (get_or l i 0) ≡ false → Found v i ≡ scan 10 first 1 (drop 1 l)
+  pub scanned_other : i < length l → is_digit (get_or l i 0) ≡ false → Some (v, i) ≡ scan 10 first 1 (drop 1 l)
   unfolding scan
   scanned_other h d = sym (m.same ∙ rw (drop-cons l i 0 h, d))
 
-  pub scanned_all : length l ≤ i → Found v i ≡ scan 10 first 1 (drop 1 l)
+  pub scanned_all : length l ≤ i → Some (v, i) ≡ scan 10 first 1 (drop 1 l)
   unfolding scan
   scanned_all h = sym (m.same ∙ rw (drop_of_length-le l h))
 
@@ -88,16 +65,16 @@ module _ {l : List ℕ} {first v i : ℕ} (m : Scanned l first v i) where
 
 -- ---- the first digit
 
-pub number_empty : (most : ℕ) (l : List ℕ) → length l ≡ 0 → Missing ≡ number most l
+pub number_empty : (most : ℕ) (l : List ℕ) → length l ≡ 0 → None ≡ number most l
 unfolding number
 number_empty most [] h = refl
 number_empty most (c ∷ l) h = absurd (omega arith)
 
 pub number_first : (most : ℕ) (l : List ℕ) → (length l ≡ 0 → ⊥)
-    → cond (eqb (get_or l 0 0) 48) (Found 0 1) (cond (is_digit (get_or l 0 0)) (scan most (get_or l 0 0 - 48) 1 (drop 1 l)) Missing) ≡ number most l
+    → cond (eqb (get_or l 0 0) 48) (Some (0, 1)) (cond (is_digit (get_or l 0 0)) (scan most (get_or l 0 0 - 48) 1 (drop 1 l)) None) ≡ number most l
 unfolding number
 number_first most [] h = absurd (h refl)
 number_first most (c ∷ l) h = refl
 
-pub number_zero : (most : ℕ) (l : List ℕ) → (length l ≡ 0 → ⊥) → get_or l 0 0 ≡ 48 → Found 0 1 ≡ number most l
+pub number_zero : (most : ℕ) (l : List ℕ) → (length l ≡ 0 → ⊥) → get_or l 0 0 ≡ 48 → Some (0, 1) ≡ number most l
 number_zero most l h e = rw (eq-eqb (get_or l 0 0) 48 e) at (number_first most l h)

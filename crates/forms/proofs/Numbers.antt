@@ -1,5 +1,5 @@
 -- The reader of a number reads exactly a number's digits. Assumes nothing.
-use mathlib.Core.Path.{◌≡◌, refl, ◌∙◌}
+use mathlib.Core.Path.{◌≡◌, refl, ap, ◌∙◌}
 use mathlib.Core.List.{List, [], ◌∷◌, ◌++◌, append_assoc}
 use mathlib.Core.Bool.{true, false}
 use Prim.Native.Nat.{ℕ, zero, suc, ◌+◌, ◌-◌, ◌*◌, ◌/◌, ◌%◌, ◌≤◌, ◌<◌}
@@ -9,7 +9,7 @@ use lib.Dec.{ltb, leb, eqb}
 use lib.ListN.{length, get_or, drop, length-append}
 use lib.Seq.{drop_at}
 use Rattle.calculus.proofs.Tests.{Way, is, isnt, way, both}
-use Rattle.forms.specs.declared.scan.Number.TheVariants.{Found}
+use Rattle.std.specs.Prelude.{Option, Some}
 use Rattle.forms.specs.Bytes.{decimal, digits_of}
 use Rattle.forms.specs.Read.{is_digit, scan, number}
 use Rattle.forms.proofs.Decimal.{decimal_small, decimal_large, decimal_more, width_large}
@@ -52,15 +52,16 @@ module _ (most : ℕ) (l : List ℕ) where
     digits = λ q. omega arith;
   }
 
-  numeral_found : (r : List ℕ) (v k n j : ℕ) → Numeral most l r v k → Found v k ≡ Found n j → Numeral most l (drop j l) n j
+  numeral_found : (r : List ℕ) (v k n j : ℕ) → Numeral most l r v k → ◌≡◌ {A = Option (ℕ × ℕ)} (Some (v, k)) (Some (n, j)) → Numeral most l (drop j l) n j
   numeral_found r v k n j x e =
-      let ev : v ≡ n = cc in
-      let ek : k ≡ j = cc in
+      let p : ◌≡◌ {A = ℕ × ℕ} (v, k) (n, j) = cc in
+      let ev : v ≡ n = ap (λ (x : ℕ × ℕ). x.0) p in
+      let ek : k ≡ j = ap (λ (x : ℕ × ℕ). x.1) p in
       let d : drop k l ≡ r = rw x.same (drop_at (decimal v) r k x.width) in
       rw (← ev, ← ek, d) x
 
   -- the number goes on behind the k digits of v, which is not 0
-  scan_sound : (r : List ℕ) (v k n j : ℕ) → 0 < v → Numeral most l r v k → scan most v k r ≡ Found n j → Numeral most l (drop j l) n j
+  scan_sound : (r : List ℕ) (v k n j : ℕ) → 0 < v → Numeral most l r v k → scan most v k r ≡ Some (n, j) → Numeral most l (drop j l) n j
   unfolding scan
   scan_sound [] v k n j p x e = numeral_found [] v k n j x e
   scan_sound (c ∷ r) v k n j p x e =
@@ -74,7 +75,7 @@ module _ (most : ℕ) (l : List ℕ) where
 numeral_first : (most c : ℕ) (l : List ℕ) → is_digit c ≡ true → Numeral most (c ∷ l) l (c - 48) 1
 numeral_first most c l e = record { same = rw (digit_alone c e); width = rw (digit_alone c e); digits = λ h. h }
 
-pub number_sound : (most : ℕ) (l : List ℕ) (n j : ℕ) → number most l ≡ Found n j → Numeral most l (drop j l) n j
+pub number_sound : (most : ℕ) (l : List ℕ) (n j : ℕ) → number most l ≡ Some (n, j) → Numeral most l (drop j l) n j
 unfolding number
 number_sound most [] n j = missing
 number_sound most (c ∷ l) n j =
@@ -83,7 +84,7 @@ number_sound most (c ∷ l) n j =
     (λ g. scan_sound most (c ∷ l) l (c - 48) 1 n j (omega (arith, eqb-false c 48 f, digit_bounds c g)) (numeral_first most c l g))
     (λ g. missing))
 
-pub number_inside : (most : ℕ) (l : List ℕ) (n j : ℕ) → number most l ≡ Found n j → j ≤ length l
+pub number_inside : (most : ℕ) (l : List ℕ) (n j : ℕ) → number most l ≡ Some (n, j) → j ≤ length l
 number_inside most l n j e =
     let x = number_sound most l n j e in
     omega (arith, front_inside (decimal n) l (drop j l) x.same)
@@ -91,7 +92,7 @@ number_inside most l n j e =
 -- ---- what is written is read
 
 module _ (most : ℕ) where
-  scan_ended : (v k : ℕ) (r : List ℕ) → is_digit (get_or r 0 0) ≡ false → scan most v k r ≡ Found v k
+  scan_ended : (v k : ℕ) (r : List ℕ) → is_digit (get_or r 0 0) ≡ false → scan most v k r ≡ Some (v, k)
   unfolding scan
   scan_ended v k [] e = refl
   scan_ended v k (c ∷ r) e = rw e
@@ -119,7 +120,7 @@ module _ (most : ℕ) where
           rw (w, decimal_large n s, append_assoc, ih s (omega arith), digit_is (n % 10) (omega arith), k, v)
 
 pub number_complete : (most n : ℕ) (r : List ℕ) → length (decimal n) ≤ most → is_digit (get_or r 0 0) ≡ false
-    → number most (decimal n ++ r) ≡ Found n (length (decimal n))
+    → number most (decimal n ++ r) ≡ Some (n, length (decimal n))
 unfolding number decimal digits_of
 number_complete most zero r d e = refl
 number_complete most (suc n) r d e =

@@ -6,13 +6,13 @@ use mathlib.Core.Option.{Option}
 use Prim.Native.Nat.{ℕ, ◌-◌, ◌≤◌}
 use lib.ListN.{length, take, drop}
 use Rattle.calculus.proofs.Tests.{join}
-use Rattle.calculus.specs.declared.request.Request as request
-use Rattle.forms.specs.declared.read.Parsed.TheVariants.{Asks}
-use Rattle.forms.specs.declared.read.Reading.{Reading}
+use Rattle.std.specs.Prelude.{Result, Ok}
+use Rattle.calculus.specs.declared.answer.Refusal.{Refusal}
+use Rattle.calculus.specs.declared.request.Request.{Request}
 use Rattle.forms.specs.Text.{Form}
 use Rattle.forms.specs.Read.{starts, fields, form_with}
-use Rattle.forms.specs.Request.{plain, reading, asked}
-use Rattle.forms.specs.Held.{bare_reading}
+use Rattle.forms.specs.Request.{reading, asked}
+use Rattle.forms.specs.Held.{bare_asked}
 use Rattle.forms.proofs.Held.{bare_form}
 use Rattle.forms.proofs.Words.{starts_inside}
 use Rattle.forms.proofs.Parts.{rest}
@@ -32,16 +32,16 @@ abbrev pub skip : {b t : Bool} (p : Left) (x y : Option Form) → p.left ≡ con
 skip p x y q e n = record { line = p.line; whole = p.whole; left = y; same = p.same ∙ q ∙ rw (join e n) }
 
 -- the word, of k bytes, is there, and `read` reads what stands behind it
-pub pick : {b t : Bool} {r : Reading} (read : List ℕ → Option Form) (k : ℕ) (p : Left) (y : Option Form)
+pub pick : {b t : Bool} {r : Result Request Refusal} (read : List ℕ → Option Form) (k : ℕ) (p : Left) (y : Option Form)
     → p.left ≡ cond t (read (drop k p.line)) y → b ≡ t → b ≡ true
     → r ≡ asked (read (take (length p.line - k) (drop k p.line))) → r ≡ asked p.whole
 pick read k p y q e n h = h ∙ rest (λ m. asked (read m)) k p.line ∙ rw (p.same, q, join e n)
 
 -- the word of a form that has no numbers
-pub pick_bare : {b t : Bool} {r : Reading} (form : List ℕ → Form) (a : request.Request)
-    → ((ns : List ℕ) → reading (form ns) ≡ plain (Asks a)) → (k : ℕ) (p : Left) (y : Option Form)
+pub pick_bare : {b t : Bool} {r : Result Request Refusal} (form : List ℕ → Form) (a : Request)
+    → ((ns : List ℕ) → reading (form ns) ≡ Ok a) → (k : ℕ) (p : Left) (y : Option Form)
     → p.left ≡ cond t (form_with form (fields 10 0 (drop k p.line))) y → b ≡ t → b ≡ true
-    → r ≡ bare_reading a (fields 10 0 (take (length p.line - k) (drop k p.line))) → r ≡ asked p.whole
+    → r ≡ bare_asked a (fields 10 0 (take (length p.line - k) (drop k p.line))) → r ≡ asked p.whole
 pick_bare form a w k p y q e n h =
     pick (λ l. form_with form (fields 10 0 l)) k p y q e n (h ∙ bare_form form a w (fields 10 0 (take (length p.line - k) (drop k p.line))))
 

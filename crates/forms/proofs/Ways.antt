@@ -5,8 +5,7 @@ use mathlib.Core.List.{List}
 use mathlib.Core.Option.{none, some}
 use Prim.Native.Nat.{ℕ}
 use Rattle.calculus.proofs.Tests.{clash}
-use Rattle.forms.specs.declared.scan.Number.{Number}
-use Rattle.forms.specs.declared.scan.Number.TheVariants.{Found, Missing}
+use Rattle.std.specs.Prelude.{Option, Some, None}
 use Rattle.forms.specs.Read.{Listed, listed, broken}
 
 module _ {R P : Type 0} {r : R} where
@@ -14,10 +13,10 @@ module _ {R P : Type 0} {r : R} where
   cond_way true x y f g e = f refl e
   cond_way false x y f g e = g refl e
 
-  pub number_way : (read : Number → R) (m : Number) → (read Missing ≡ r → P)
-      → ((n j : ℕ) → m ≡ Found n j → read (Found n j) ≡ r → P) → read m ≡ r → P
-  number_way read Missing f g e = f e
-  number_way read (Found n j) f g e = g n j refl e
+  pub number_way : (read : Option (ℕ × ℕ) → R) (m : Option (ℕ × ℕ)) → (read None ≡ r → P)
+      → ((n j : ℕ) → m ≡ Some (n, j) → read (Some (n, j)) ≡ r → P) → read m ≡ r → P
+  number_way read None f g e = f e
+  number_way read (Some (n, j)) f g e = g n j refl e
 
   pub list_way : (read : Listed → R) (m : Listed) → (read broken ≡ r → P)
       → ((ns : List ℕ) (j : ℕ) → m ≡ listed ns j → read (listed ns j) ≡ r → P) → read m ≡ r → P
@@ -32,7 +31,7 @@ some_same P {a} {b} h e = let q : a ≡ b = cc in rw (← q) h
 pub nothing : {A P : Type 0} {a : A} → none ≡ some a → P
 nothing e = clash cc
 
-pub missing : {P : Type 0} {n j : ℕ} → Missing ≡ Found n j → P
+pub missing : {P : Type 0} {n j : ℕ} → ◌≡◌ {A = Option (ℕ × ℕ)} None (Some (n, j)) → P
 missing e = clash cc
 
 pub unlisted : {P : Type 0} {ns : List ℕ} {j : ℕ} → broken ≡ listed ns j → P

@@ -1,7 +1,7 @@
 -- Words at the front of a line. Assumes nothing.
 use mathlib.Core.Path.{◌≡◌, refl, ap, ◌∙◌}
 use mathlib.Core.List.{List, [], ◌∷◌, ◌++◌, append-nil}
-use mathlib.Core.Bool.{true, cond}
+use mathlib.Core.Bool.{true, cond, ◌&&◌}
 use Prim.Native.Nat.{ℕ, ◌≤◌}
 use native.Mathlib.Omega.{arith}
 use borrow.Author.Tests.{eqb-true}
@@ -9,7 +9,15 @@ use lib.Dec.{eqb}
 use lib.ListN.{length, drop, length-append}
 use Rattle.calculus.proofs.Tests.{never, both}
 use Rattle.forms.specs.Read.{starts, is_text}
+use Rattle.std.specs.List.{starts_with}
 use Rattle.forms.proofs.Ways.{cond_way}
+
+-- the library's test of a front
+pub starts_same : (w l : List ℕ) → starts_with eqb l w ≡ starts w l
+unfolding starts
+starts_same [] l = refl
+starts_same (a ∷ w) [] = refl
+starts_same (a ∷ w) (c ∷ l) = ap (λ b. eqb a c && b) (starts_same w l)
 
 pub front_inside : (w l r : List ℕ) → l ≡ w ++ r → length w ≤ length l
 front_inside w l r e = omega (arith, ap length e, length-append w r)

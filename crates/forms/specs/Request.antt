@@ -1,15 +1,13 @@
 -- What a line asks: its form as a request in range, with refusals 1 and 2 told apart. `read` cites it. Assumes nothing.
-use Rattle.std.specs.Prelude.{ℕ, ◌+◌, Bool, true, false, cond, ◌&&◌, List, [], ◌∷◌, set, replicate}
+use Rattle.std.specs.Prelude.{ℕ, ◌+◌, Bool, true, false, cond, ◌&&◌, List, [], ◌∷◌, Result, Ok, Err, set, replicate}
 use Rattle.std.proofs.Math.Option.{Option, none, some}
 use Rattle.calculus.specs.Number.{within, is_node, is_destination, is_session, is_item, is_establishment, is_tag, sender_of}
 use Rattle.calculus.specs.Table.{entries_from, only_if}
+use Rattle.calculus.specs.declared.answer.Refusal.{Refusal}
 use Rattle.calculus.specs.declared.answer.Refusal.TheVariants.{Unreadable, Range}
 use Rattle.calculus.specs.declared.network.Kind.{Kind}
 use Rattle.calculus.specs.declared.request.Request as request
 use Rattle.calculus.specs.declared.request.Request.TheVariants.{Node, Route, Open, Step, Send, Close, Show, Net, Drop}
-use Rattle.forms.specs.declared.read.Parsed.{Parsed}
-use Rattle.forms.specs.declared.read.Parsed.TheVariants.{Asks, Refused}
-use Rattle.forms.specs.declared.read.Reading.{Reading}
 use Rattle.forms.specs.Text.{Form, node, route, «open», step, send, close, show, net, take_down}
 
 -- "credentials 0 to 63", strictly rising, the first at least `least`
@@ -34,30 +32,28 @@ node_of a k has needs = node a k (credentials_from 0 has) (credentials_from 0 ne
 abbrev pub no_credentials : List Bool
 no_credentials = replicate 64 false
 
--- the request q where its numbers are in range, else refusal 2
-abbrev pub in_range : Bool → request.Request → Parsed
-in_range ok q = cond ok (Asks q) (Refused Range)
+-- what a line asks, or its refusal 1 or 2
+abbrev pub Asked : Type 0
+Asked = Result request.Request Refusal
 
--- what a form other than a node's asks: it has no credentials
-abbrev pub plain : Parsed → Reading
-plain p = record { parsed = p; has = no_credentials; needs = no_credentials }
+-- the request q where its numbers are in range, else refusal 2
+abbrev pub in_range : Bool → request.Request → Asked
+in_range ok q = cond ok (Ok q) (Err Range)
 
 -- what a form asks
-abbrev pub reading : Form → Reading
+abbrev pub reading : Form → Asked
 reading (node a k has needs) =
-    cond (is_node a && (rising 0 has && rising 0 needs))
-    (record { parsed = Asks (Node a k); has = holding no_credentials has; needs = holding no_credentials needs })
-    (plain (Refused Range))
-reading (route a b n) = plain (in_range (is_node a && (is_destination b && is_node n)) (Route a b n))
-reading («open» u c d) = plain (in_range (is_session u && (is_node c && is_node d)) (Open (record { 0 = u }) c d))
-reading (step u k) = plain (in_range (is_session u && is_item k) (Step (record { 0 = u }) (record { 0 = k })))
-reading (send u w t) = plain (in_range (is_session u && (within 0 1 w && is_tag t)) (Send (record { 0 = u }) (sender_of w) t))
-reading (close u) = plain (in_range (is_session u) (Close (record { 0 = u })))
-reading show = plain (Asks Show)
-reading net = plain (Asks Net)
-reading (take_down u e) = plain (in_range (is_session u && is_establishment e) (Drop (record { 0 = u }) e))
+    in_range (is_node a && (rising 0 has && rising 0 needs)) (Node a k (holding no_credentials has) (holding no_credentials needs))
+reading (route a b n) = in_range (is_node a && (is_destination b && is_node n)) (Route a b n)
+reading («open» u c d) = in_range (is_session u && (is_node c && is_node d)) (Open (record { 0 = u }) c d)
+reading (step u k) = in_range (is_session u && is_item k) (Step (record { 0 = u }) (record { 0 = k }))
+reading (send u w t) = in_range (is_session u && (within 0 1 w && is_tag t)) (Send (record { 0 = u }) (sender_of w) t)
+reading (close u) = in_range (is_session u) (Close (record { 0 = u }))
+reading show = Ok Show
+reading net = Ok Net
+reading (take_down u e) = in_range (is_session u && is_establishment e) (Drop (record { 0 = u }) e)
 
 -- what a line asks: where it is no form, refusal 1
-abbrev pub asked : Option Form → Reading
+abbrev pub asked : Option Form → Asked
 asked (some f) = reading f
-asked none = plain (Refused Unreadable)
+asked none = Err Unreadable

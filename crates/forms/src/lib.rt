@@ -6,5 +6,4 @@ pub mod line;
 mod list;
 mod node;
 pub mod read;
-mod reading;
 mod scan;

@@ -5,29 +5,13 @@ ghost use Rattle.forms.specs.Request.{asked};
 
 use crate::fields::{bare_at, close_at, drop_at, open_at, route_at, send_at, step_at};
 use crate::node::node_at;
-use crate::reading::refused;
 use crate::scan::starts;
 use calculus::answer::Refusal;
 use calculus::request::Request;
 
-// What a line asks, or its refusal 1 or 2.
-#[derive(Clone, Copy)]
-pub enum Parsed {
-    Asks(Request),
-    Refused(Refusal),
-}
-
-// A line read. The credentials are a node's, and none otherwise.
-#[derive(Clone, Copy)]
-pub struct Reading {
-    pub parsed: Parsed,
-    pub has: [bool; 64],
-    pub needs: [bool; 64],
-}
-
 // A form other than a node's.
 #[tactic(auto, using(crate::proofs::Words::starts_inside, crate::proofs::Parts::rest), unfolding(crate::specs::Read::plain_form))]
-fn read_plain(s: &[u8]) -> Reading
+fn read_plain(s: &[u8]) -> Result<Request, Refusal>
     ensures { result ≡ asked (spec.plain_form 10 s.now) }
 {
     if starts(s, b"(route") {
@@ -54,12 +38,12 @@ fn read_plain(s: &[u8]) -> Reading
     if starts(s, b"(drop") {
         return drop_at(&s[5..]);
     }
-    refused(Refusal::Unreadable)
+    Err(Refusal::Unreadable)
 }
 
 // What a line of any length asks.
 #[tactic(auto, using(crate::proofs::Words::starts_inside, crate::proofs::Parts::rest), unfolding(crate::specs::Read::form_of))]
-fn read_form(s: &[u8]) -> Reading
+fn read_form(s: &[u8]) -> Result<Request, Refusal>
     ensures { result ≡ asked (spec.form_of 10 200 s.now) }
 {
     if starts(s, b"(node ") {
@@ -70,11 +54,11 @@ fn read_form(s: &[u8]) -> Reading
 
 // What `line`, the bytes before its newline, asks; refusal 1 where it is no form, 2 where a number is out of range.
 #[tactic(auto, unfolding(crate::specs::Read::read))]
-pub fn read(line: &[u8]) -> Reading
+pub fn read(line: &[u8]) -> Result<Request, Refusal>
     ensures { result ≡ asked (spec.read line.now) }
 {
     if line.len() <= 400 {
         return read_form(line);
     }
-    refused(Refusal::Unreadable)
+    Err(Refusal::Unreadable)
 }

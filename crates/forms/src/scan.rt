@@ -2,95 +2,73 @@
 ghost use Rattle.std.specs.Prelude.{◌≡◌, ◌∷◌, [], ◌<◌, length, drop};
 ghost use Rattle.forms.specs.Read as spec;
 
-// A number read, and how many bytes it takes.
-#[derive(Clone, Copy)]
-pub enum Number {
-    Found { value: u64, used: usize },
-    Missing,
-}
-
 // Whether `s` begins with `w`.
+#[tactic(auto, using(crate::proofs::Words::starts_same))]
 pub fn starts(s: &[u8], w: &[u8]) -> bool
     ensures { result ≡ spec.starts w.now s.now }
 {
-    let mut i = 0;
-    while i < w.len() {
-        if s.len() <= i {
-            return false;
-        }
-        if w[i] != s[i] {
-            return false;
-        }
-        i += 1;
-    }
-    true
+    s.starts_with(w)
 }
 
 // Whether the byte `b` stands at `at`.
+#[tactic(auto, using(crate::proofs::Loops::byte_here, crate::proofs::Loops::byte_past))]
 pub fn byte_at(s: &[u8], at: usize, b: u8) -> bool
     ensures { result ≡ spec.starts (b ∷ []) (drop at s.now) }
 {
-    if at < s.len() {
-        let c = s[at];
-        b == c
-    } else {
-        false
-    }
+    at < s.len() && b == s[at]
 }
 
 // Whether `c` is a decimal digit.
 fn is_digit(c: u8) -> bool
     ensures { result ≡ spec.is_digit c }
 {
-    if 48 <= c { c <= 57 } else { false }
+    c.is_ascii_digit()
 }
 
 // A byte's value: by a call, it needs no bound at the place that asks.
 fn wide(c: u8) -> u64
     ensures { result ≡ c }
 {
-    c as u64
+    u64::from(c)
 }
 
-// The number at the front of `s` whose first digit has the value `first`.
-#[tactic(auto, using(crate::proofs::Loops::scanned_long))]
-fn number_after(s: &[u8], first: u64) -> Number
+// The number at the front of `s` whose first digit has the value `first`, and how many bytes it takes.
+#[tactic(auto, using(crate::proofs::Loops::scanned_more, crate::proofs::Loops::scanned_long, crate::proofs::Loops::scanned_other, crate::proofs::Loops::scanned_all))]
+fn number_after(s: &[u8], first: u64) -> Option<(u64, usize)>
     requires { (first < 10) × (0 < length s.now) }
     ensures { result ≡ spec.scan 10 first 1 (drop 1 s.now) }
 {
     let mut value = first;
-    let mut i = 1;
-    while i < s.len() {
+    for i in 1..s.len() {
         let c = s[i];
         if is_digit(c) {
             if i < 10 {
                 value = value * 10 + (wide(c) - 48);
-                i += 1;
             } else {
-                return Number::Missing;
+                return None;
             }
         } else {
-            return Number::Found { value, used: i };
+            return Some((value, i));
         }
     }
-    Number::Found { value, used: i }
+    Some((value, s.len()))
 }
 
-// The number at the front of `s`.
+// The number at the front of `s`, and how many bytes it takes.
 #[tactic(auto, using(crate::proofs::Loops::number_zero))]
-pub fn read_number(s: &[u8]) -> Number
+pub fn read_number(s: &[u8]) -> Option<(u64, usize)>
     ensures { result ≡ spec.number 10 s.now }
 {
     if s.len() == 0 {
-        return Number::Missing;
+        return None;
     }
     let c = s[0];
     if c == 48 {
-        return Number::Found { value: 0, used: 1 };
+        return Some((0, 1));
     }
     if is_digit(c) {
         number_after(s, wide(c) - 48)
     } else {
-        Number::Missing
+        None
     }
 }

@@ -17,10 +17,9 @@ use Rattle.calculus.specs.declared.request.Request.TheVariants.{Node, Route, Ope
 use Rattle.calculus.specs.declared.request.Sender.{Sender}
 use Rattle.calculus.specs.declared.state.Part.{Part}
 use Rattle.calculus.specs.declared.state.State.{State}
-use Rattle.forms.specs.declared.read.Parsed.TheVariants.{Asks, Refused}
-use Rattle.forms.specs.declared.read.Reading.{Reading}
+use Rattle.std.specs.Prelude as rust
 use Rattle.forms.specs.Text.{Form, node, route, «open», step, send, close, show, net, take_down}
-use Rattle.forms.specs.Request.{rising, holding, no_credentials, in_range, plain, reading, asked}
+use Rattle.forms.specs.Request.{rising, holding, no_credentials, Asked, in_range, reading, asked}
 use Rattle.model.specs.Row.{stands}
 use Rattle.model.specs.Requests.{Move, refuse, open_move, step_move, send_move, close_move, drop_move, performed}
 use Rattle.model.specs.State.{load}
@@ -29,7 +28,7 @@ use Rattle.model.specs.Calls.{one_answer, requested, form_gives_network, form_na
 
 -- the session of a request, 0 if it has none
 abbrev pub session_in : request.Request → ℕ
-session_in (Node a k) = 0
+session_in (Node a k has needs) = 0
 session_in (Route a b n) = 0
 session_in (Open u c d) = u.0
 session_in (Step u k) = u.0
@@ -41,7 +40,7 @@ session_in (Drop u e) = u.0
 
 -- the move of a session's request; other requests have none
 abbrev pub own_move : Network → (ℕ → ℕ → Bool) → request.Request → Part → Move
-own_move n standing (Node a k) t = refuse Unreadable
+own_move n standing (Node a k has needs) t = refuse Unreadable
 own_move n standing (Route a b next) t = refuse Unreadable
 own_move n standing (Open u c d) t = open_move n c d t
 own_move n standing (Step u k) t = step_move n standing k.0 t
@@ -55,7 +54,7 @@ own_move n standing (Drop u e) t = drop_move e t
 pub own_cases : (P : Move → Type 0) (n : Network) (standing : ℕ → ℕ → Bool) (q : request.Request) (t : Part) → P (refuse Unreadable)
     → ((c d : ℕ) → P (open_move n c d t)) → ((k : ℕ) → P (step_move n standing k t)) → ((w : Sender) (tag : ℕ) → P (send_move w tag t)) → P (close_move t)
     → ((e : ℕ) → P (drop_move e t)) → P (own_move n standing q t)
-own_cases P n standing (Node a k) t other opens steps sends closes drops = other
+own_cases P n standing (Node a k has needs) t other opens steps sends closes drops = other
 own_cases P n standing (Route a b next) t other opens steps sends closes drops = other
 own_cases P n standing (Open u c d) t other opens steps sends closes drops = opens c d
 own_cases P n standing (Step u k) t other opens steps sends closes drops = steps k.0
@@ -69,18 +68,18 @@ own_cases P n standing (Drop u e) t other opens steps sends closes drops = drops
 abbrev pub move_in : State → ℕ → request.Request → Move
 move_in s u q = own_move s.network (stands s.users false) q (load s u)
 
-pub requested_own : (s : State) (x y : List Bool) (q : request.Request) → is_session (session_in q) ≡ true
-    → requested s x y q ≡ one_answer (performed s (session_in q) (move_in s (session_in q) q))
+pub requested_own : (s : State) (q : request.Request) → is_session (session_in q) ≡ true
+    → requested s q ≡ one_answer (performed s (session_in q) (move_in s (session_in q) q))
 unfolding requested
-requested_own s x y (Node a k) e = never e
-requested_own s x y (Route a b n) e = never e
-requested_own s x y (Open u c d) e = refl
-requested_own s x y (Step u k) e = refl
-requested_own s x y (Send u w tag) e = refl
-requested_own s x y (Close u) e = refl
-requested_own s x y Show e = never e
-requested_own s x y Net e = never e
-requested_own s x y (Drop u k) e = refl
+requested_own s (Node a k has needs) e = never e
+requested_own s (Route a b n) e = never e
+requested_own s (Open u c d) e = refl
+requested_own s (Step u k) e = refl
+requested_own s (Send u w tag) e = refl
+requested_own s (Close u) e = refl
+requested_own s Show e = never e
+requested_own s Net e = never e
+requested_own s (Drop u k) e = refl
 
 -- a line that gives the network names no session
 pub not_own : (u : ℕ) (o : Option Form) → form_gives_network o ≡ true → form_names u o ≡ false
@@ -104,17 +103,17 @@ holding_length [] s = refl
 holding_length (n ∷ ns) s = holding_length ns (set s n true) ∙ length-set s n true
 
 -- what a line of the form o, or of none, asks
-pub data Meaning (o : Option Form) : Reading → Type 0 where
-  refuses : (r : Refusal) → IsWritten r → Meaning o (plain (Refused r))
+pub data Meaning (o : Option Form) : Asked → Type 0 where
+  refuses : (r : Refusal) → IsWritten r → Meaning o (rust.Err r)
   gives_node : (a : ℕ) (k : Kind) (has needs : List Bool) → IsSet has → IsSet needs → form_gives_network o ≡ true
-      → Meaning o (record { parsed = Asks (Node a k); has = has; needs = needs })
-  gives_route : (a b n : ℕ) → form_gives_network o ≡ true → Meaning o (plain (Asks (Route a b n)))
-  of_session : (q : request.Request) → is_session (session_in q) ≡ true → ((u : ℕ) → form_names u o ≡ eqb (session_in q) u) → Meaning o (plain (Asks q))
-  shows : ((u : ℕ) → form_names u o ≡ false) → Meaning o (plain (Asks Show))
-  gives_back : ((u : ℕ) → form_names u o ≡ false) → Meaning o (plain (Asks Net))
+      → Meaning o (rust.Ok (Node a k has needs))
+  gives_route : (a b n : ℕ) → form_gives_network o ≡ true → Meaning o (rust.Ok (Route a b n))
+  of_session : (q : request.Request) → is_session (session_in q) ≡ true → ((u : ℕ) → form_names u o ≡ eqb (session_in q) u) → Meaning o (rust.Ok q)
+  shows : ((u : ℕ) → form_names u o ≡ false) → Meaning o (rust.Ok Show)
+  gives_back : ((u : ℕ) → form_names u o ≡ false) → Meaning o (rust.Ok Net)
 
 -- a request whose numbers are in range, or refusal 2
-ranged : {o : Option Form} (ok : Bool) (q : request.Request) → (ok ≡ true → Meaning o (plain (Asks q))) → Meaning o (plain (in_range ok q))
+ranged : {o : Option Form} (ok : Bool) (q : request.Request) → (ok ≡ true → Meaning o (rust.Ok q)) → Meaning o (in_range ok q)
 ranged true q f = f refl
 ranged false q f = refuses Range refl
 

@@ -15,10 +15,10 @@ use Rattle.calculus.specs.declared.packet.Item.TheVariants.{Wire}
 use Rattle.calculus.specs.declared.request.Sender.{Sender}
 use Rattle.calculus.specs.declared.state.Part.{Part}
 use Rattle.calculus.specs.declared.state.State.{State}
-use Rattle.forms.specs.declared.read.Reading.{Reading}
 use Rattle.forms.specs.Text.{Form, node, route, «open», step, send, close, show, net, take_down}
 use Rattle.forms.specs.Read.{read}
-use Rattle.forms.specs.Request.{rising, asked}
+use Rattle.forms.specs.Request.{rising, asked, Asked}
+use Rattle.model.specs.Lists.{place}
 use Rattle.model.specs.Network.{is_gateway}
 use Rattle.model.specs.Packet.{hop_limit, bare}
 use Rattle.model.specs.Row.{held, is_other, are_nodes}
@@ -117,9 +117,9 @@ module _ (network : Network) (t : Part) (h : Sane t) (n : ℕ) (k : Tracked netw
 
   -- ---- a line
 
-  counts_line : (o : Option Form) → Counts network n (form_count t.items n o) (seen_parsed network t (asked o).parsed)
+  counts_line : (o : Option Form) → Counts network n (form_count t.items n o) (seen_parsed network t (asked o))
   counts_line (some (node a x has needs)) =
-      either (λ (r : Reading). Counts network n n (seen_parsed network t r.parsed)) (is_node a && (rising 0 has && rising 0 needs)) (λ e. k) (λ e. k)
+      either (λ (r : Asked). Counts network n n (seen_parsed network t r)) (is_node a && (rising 0 has && rising 0 needs)) (λ e. k) (λ e. k)
   counts_line (some (route a b next)) = ranged_seen (Counts network n n) network t k (is_node a && (is_destination b && is_node next)) _ k
   counts_line (some («open» u c d)) = ranged_seen (Counts network n 0) network t k (is_session u && (is_node c && is_node d)) _ (counts_open c d)
   counts_line (some (step u i)) = ranged_seen (Counts network n _) network t k (is_session u && is_item i) _ (counts_step i)

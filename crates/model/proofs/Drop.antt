@@ -16,7 +16,7 @@ use Rattle.calculus.specs.declared.session.Row.{Row}
 use Rattle.calculus.specs.declared.state.State.{State}
 use Rattle.forms.specs.Text.{take_down}
 use Rattle.forms.specs.Read.{read}
-use Rattle.forms.specs.Request.{plain, in_range}
+use Rattle.forms.specs.Request.{in_range}
 use Rattle.model.specs.Lists.{tally, those}
 use Rattle.model.specs.Row.{held, is_of, is_other, place_out, place_node, place_peer, users_of}
 use Rattle.model.specs.State.{fresh, load}
@@ -61,9 +61,9 @@ not_accepted : {A : Type 0} (r : Refusal) → ◌≡◌ {A = Option Refusal} (so
 not_accepted r w = never (ap is_accepted w)
 
 module _ (t : State) (h : Sound t) (u e : ℕ) where
-  asks_drop : Numbered u → (has needs : List Bool) → IfAccepted u e t (requested t has needs (Drop (record { 0 = u }) e))
+  asks_drop : Numbered u → IfAccepted u e t (requested t (Drop (record { 0 = u }) e))
   unfolding requested drop_move performed
-  asks_drop hu has needs =
+  asks_drop hu =
       let p = load t u in
       checked_either (λ (m : Move). FairMove p m → IfAccepted u e t (one_answer (performed t u m))) refuse (λ r f w. not_accepted r w) _
       (λ k f w.
@@ -74,8 +74,8 @@ module _ (t : State) (h : Sound t) (u e : ℕ) where
       })
       (fair_own t h.good u hu (Drop (record { 0 = u }) e))
 
-  ranged : (b : Bool) → (b ≡ true → Numbered u) → IfAccepted u e t (replied_to t (plain (in_range b (Drop (record { 0 = u }) e))))
-  ranged true i = asks_drop (i refl) _ _
+  ranged : (b : Bool) → (b ≡ true → Numbered u) → IfAccepted u e t (replied_to t (in_range b (Drop (record { 0 = u }) e)))
+  ranged true i = asks_drop (i refl)
   ranged false i = λ w. not_accepted _ w
 
   drop_rows : (c : Call) → read c.line ≡ some (take_down u e) → IfAccepted u e t (call t c)

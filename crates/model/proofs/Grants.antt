@@ -22,11 +22,10 @@ use Rattle.calculus.specs.declared.session.Session.{Session}
 use Rattle.calculus.specs.declared.state.Part.{Part}
 use Rattle.calculus.specs.declared.state.State.{State}
 use Rattle.calculus.specs.declared.state.Turn.{Turn}
-use Rattle.forms.specs.declared.read.Reading.{Reading}
 use Rattle.forms.specs.Text.{Form}
 use Rattle.forms.specs.Read.{read}
-use Rattle.forms.specs.Request.{asked}
-use Rattle.model.specs.Lists.{All}
+use Rattle.forms.specs.Request.{asked, Asked}
+use Rattle.model.specs.Lists.{All, place}
 use Rattle.model.specs.Row.{held, is_of, stands}
 use Rattle.model.specs.Rules.{grant_rule, rule}
 use Rattle.model.specs.State.{load, store, found_item, added_rows, applied}
@@ -142,7 +141,7 @@ module _ (s : State) (h : Sound s) where
   module _ (u : ℕ) (hu : Numbered u) where
     own_rows : (q : request.Request) → session_in q ≡ u → MoveRows u (load s u) (move_in s u q) (request_events s q)
     unfolding open_move opening send_move sending close_move drop_move
-    own_rows (Node a k) w = tt
+    own_rows (Node a k has needs) w = tt
     own_rows (Route a b n) w = tt
     own_rows (Open v c d) w = checked_either (λ (m : Move). MoveRows u (load s u) m []) refuse (λ r. tt) _ (λ e. refl)
     own_rows (Step v k) w = rw w (step_rows (load s u) (h.sane u hu) s.network (stands s.users false) u k.0)
@@ -167,7 +166,7 @@ module _ (s : State) (h : Sound s) where
         rw w
         (moved_rows (store (changed s c) u t) t (stored_own s h.good.sized u hu t f.whole c) (stored_others s h.good.sized u hu t f.whole c) l k)
 
-  asked_rows : (o : Option Form) (r : Reading) → Meaning o r → Replied (line_events s r.parsed) (replied_to s r)
+  asked_rows : (o : Option Form) (r : Asked) → Meaning o r → Replied (line_events s r) (replied_to s r)
   unfolding requested node_turn route_turn load
   asked_rows o r (refuses x w) = λ v hv. refl
   asked_rows o r (gives_node a k has needs i j n) =
@@ -177,7 +176,7 @@ module _ (s : State) (h : Sound s) where
   asked_rows o r (of_session q i k) =
       let u = session_in q in
       let hu = numbered u i in
-      subst (Replied (request_events s q)) (sym (requested_own s _ _ q i))
+      subst (Replied (request_events s q)) (sym (requested_own s q i))
       (performed_rows u hu (move_in s u q) (fair_own s h.good u hu q) (move_answers s.network (stands s.users false) q (load s u)) (request_events s q)
       (own_rows u hu q refl))
   asked_rows o r (shows k) = λ v hv. refl
@@ -187,7 +186,7 @@ module _ (s : State) (h : Sound s) where
   unfolding answered
   call_rows c =
       let r = asked (read c.line) in
-      either (Replied (line_events s r.parsed)) (ltb c.size 65536) (λ e v hv. refl) (λ e. asked_rows (read c.line) r (meaning (read c.line)))
+      either (Replied (line_events s r)) (ltb c.size 65536) (λ e v hv. refl) (λ e. asked_rows (read c.line) r (meaning (read c.line)))
 
 -- ---- the rows that a list of calls leaves
 

@@ -22,12 +22,11 @@ use Rattle.calculus.specs.declared.request.Request as request
 use Rattle.calculus.specs.declared.request.Request.TheVariants.{Node, Route, Open, Step, Send, Close, Show, Net, Drop}
 use Rattle.calculus.specs.declared.state.Part.{Part}
 use Rattle.calculus.specs.declared.state.State.{State}
-use Rattle.forms.specs.declared.read.Parsed.{Parsed}
-use Rattle.forms.specs.declared.read.Parsed.TheVariants.{Asks, Refused}
-use Rattle.forms.specs.declared.read.Reading.{Reading}
+use Rattle.std.specs.Prelude as rust
 use Rattle.forms.specs.Text.{Form}
 use Rattle.forms.specs.Read.{read}
-use Rattle.forms.specs.Request.{in_range, asked}
+use Rattle.forms.specs.Request.{in_range, asked, Asked}
+use Rattle.model.specs.Packet.{is_bare}
 use Rattle.model.specs.Row.{held, admits, are_nodes, users_of, stands}
 use Rattle.model.specs.Rules.{admitted, up_rule, rule}
 use Rattle.model.specs.State.{load}
@@ -74,7 +73,7 @@ module _ (n : Network) (standing : ℕ → ℕ → Bool) (t : Part) (h : (a q : 
 
   move_same : (q : request.Request) → own_move n standing q t ≡ own_move n are_nodes q t
   unfolding step_move
-  move_same (Node a k) = refl
+  move_same (Node a k has needs) = refl
   move_same (Route a b next) = refl
   move_same (Open u c d) = refl
   move_same (Step u k) = step_same _
@@ -115,9 +114,9 @@ abbrev pub seen_move : Part → Move → Seen
 seen_move t (refuse r) = record { part = t; lines = answer (No r); refusal = some r }
 seen_move t (moved a t' c) = record { part = t'; lines = answer a; refusal = refusal_in a }
 
-abbrev pub seen_parsed : Network → Part → Parsed → Seen
-seen_parsed n t (Asks q) = seen_move t (own_move n are_nodes q t)
-seen_parsed n t (Refused r) = seen_move t (refuse r)
+abbrev pub seen_parsed : Network → Part → Asked → Seen
+seen_parsed n t (rust.Ok q) = seen_move t (own_move n are_nodes q t)
+seen_parsed n t (rust.Err r) = seen_move t (refuse r)
 
 -- what holds of a refusal, and of a request's move, holds of a line that asks for it, its numbers in range or not
 pub ranged_seen : (P : Seen → Type 0) (n : Network) (t : Part) → P (seen_move t (refuse Range)) → (ok : Bool) (q : request.Request)
@@ -129,7 +128,7 @@ ranged_seen P n t r false q h = r
 unfoldable pub local : Network → Part → Call → Seen
 local n t c =
     cond (ltb c.size 65536) (record { part = t; lines = report []; refusal = some Short })
-    (seen_parsed n t (asked (read c.line)).parsed)
+    (seen_parsed n t (asked (read c.line)))
 
 module _ (s : State) (g : Good s) (u : ℕ) (hu : Numbered u) where
   pub performed_own : (m : Move) → FairMove (load s u) m → seen u (one_answer (performed s u m)) ≡ seen_move (load s u) m
@@ -153,14 +152,14 @@ module _ (s : State) (g : Good s) (u : ℕ) (hu : Numbered u) where
       ∙ ap (seen_move (load s u)) (move_same s.network (stands s.users false) (load s u) (in_row_stands s g u hu) q)
 
   -- the reply to what is u's own
-  asked_seen : (o : Option Form) → form_names u o ≡ true → (r : Reading) → Meaning o r
-      → seen u (replied_to s r) ≡ seen_parsed s.network (load s u) r.parsed
+  asked_seen : (o : Option Form) → form_names u o ≡ true → (r : Asked) → Meaning o r
+      → seen u (replied_to s r) ≡ seen_parsed s.network (load s u) r
   asked_seen o e r (refuses x w) = refl
   asked_seen o e r (gives_node a k has needs i j n) = never (sym (not_own u o n) ∙ e)
   asked_seen o e r (gives_route a b next n) = never (sym (not_own u o n) ∙ e)
   asked_seen o e r (of_session q i h) =
       let w : session_in q ≡ u = eqb-true (session_in q) u (sym (h u) ∙ e) in
-      ap (seen u) (requested_own s _ _ q i ∙ ap (λ (v : ℕ). one_answer (performed s v (move_in s v q))) w) ∙ own_seen q
+      ap (seen u) (requested_own s q i ∙ ap (λ (v : ℕ). one_answer (performed s v (move_in s v q))) w) ∙ own_seen q
   asked_seen o e r (shows h) = never (sym (h u) ∙ e)
   asked_seen o e r (gives_back h) = never (sym (h u) ∙ e)
 
@@ -169,6 +168,6 @@ module _ (s : State) (g : Good s) (u : ℕ) (hu : Numbered u) where
   call_own c e = go (ltb c.size 65536)
     where
       go : (b : Bool) → seen u (cond b (short s) (replied_to s (asked (read c.line))))
-          ≡ cond b (seen u (short s)) (seen_parsed s.network (load s u) (asked (read c.line)).parsed)
+          ≡ cond b (seen u (short s)) (seen_parsed s.network (load s u) (asked (read c.line)))
       go true = refl
       go false = asked_seen (read c.line) e (asked (read c.line)) (meaning (read c.line))

@@ -11,10 +11,9 @@ use Rattle.calculus.specs.declared.effect.Effect.{Effect}
 use Rattle.calculus.specs.declared.network.Network.{Network}
 use Rattle.calculus.specs.declared.request.Request as request
 use Rattle.calculus.specs.declared.state.Part.{Part}
-use Rattle.forms.specs.declared.read.Parsed.{Parsed}
-use Rattle.forms.specs.declared.read.Parsed.TheVariants.{Asks, Refused}
+use Rattle.std.specs.Prelude as rust
 use Rattle.forms.specs.Read.{read}
-use Rattle.forms.specs.Request.{asked}
+use Rattle.forms.specs.Request.{Asked, asked}
 use Rattle.model.specs.Lists.{up_from}
 use Rattle.model.specs.Row.{are_nodes}
 use Rattle.model.specs.State.{answer_of, written_count, applied, session_after}
@@ -68,11 +67,11 @@ module _ (t : Part) where
       (checked_either (IssuesMove t) refuse (λ r. issued_none t) _ (λ e. record { many = 0; last = omega arith; carried = refl }))
       (λ e. checked_either (IssuesMove t) refuse (λ r. issued_none t) _ (λ k. record { many = 0; last = omega arith; carried = refl }))
 
-  parsed_issues : (n : Network) (p : Parsed) → Issues t (seen_parsed n t p)
-  parsed_issues n (Asks q) = move_issues n q
-  parsed_issues n (Refused r) = issued_none t
+  parsed_issues : (n : Network) (p : Asked) → Issues t (seen_parsed n t p)
+  parsed_issues n (rust.Ok q) = move_issues n q
+  parsed_issues n (rust.Err r) = issued_none t
 
   pub local_issues : (n : Network) (c : Call) → Issues t (local n t c)
   unfolding local
   local_issues n c =
-      either (Issues t) (ltb c.size 65536) (λ e. issued_none t) (λ e. parsed_issues n (asked (read c.line)).parsed)
+      either (Issues t) (ltb c.size 65536) (λ e. issued_none t) (λ e. parsed_issues n (asked (read c.line)))

@@ -17,10 +17,9 @@ use Rattle.calculus.specs.declared.request.Request as request
 use Rattle.calculus.specs.declared.state.Part.{Part}
 use Rattle.calculus.specs.declared.state.State.{State}
 use Rattle.calculus.specs.declared.state.Turn.{Turn}
-use Rattle.forms.specs.declared.read.Reading.{Reading}
 use Rattle.forms.specs.Text.{Form}
 use Rattle.forms.specs.Read.{read}
-use Rattle.forms.specs.Request.{asked}
+use Rattle.forms.specs.Request.{Asked, asked}
 use Rattle.model.specs.State.{answer_of}
 use Rattle.model.specs.Requests.{refused, node_turn, route_turn, Move, refuse, moved, open_move, stepped, step_at, step_move, send_move, close_move, drop_move, performed}
 use Rattle.model.specs.Row.{stands}
@@ -84,7 +83,7 @@ performed_says s u (moved a t c) e = answer_replies s _ e
 
 -- ---- a call
 
-asked_replies : (s : State) (o : Option Form) (r : Reading) → Meaning o r → CanReply s (replied_to s r)
+asked_replies : (s : State) (o : Option Form) (r : Asked) → Meaning o r → CanReply s (replied_to s r)
 unfolding requested node_turn route_turn
 asked_replies s o r (refuses x w) = refusal_replies s x w
 asked_replies s o r (gives_node a k has needs i j n) =
@@ -92,7 +91,7 @@ asked_replies s o r (gives_node a k has needs i j n) =
 asked_replies s o r (gives_route a b next n) =
     checked_written (Says s) (refused s) (refusal_replies s) _ (refl, (refl, (refl, (refl, tt)))) (answer_replies s _ refl)
 asked_replies s o r (of_session q i h) =
-    subst (CanReply s) (sym (requested_own s _ _ q i)) (performed_says s _ _ (move_answers s.network (stands s.users false) q _))
+    subst (CanReply s) (sym (requested_own s q i)) (performed_says s _ _ (move_answers s.network (stands s.users false) q _))
 asked_replies s o r (shows h) = shown_with
 asked_replies s o r (gives_back h) = given_back_with
 

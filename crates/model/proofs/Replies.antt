@@ -13,9 +13,8 @@ use Rattle.calculus.specs.declared.network.Network.{Network}
 use Rattle.calculus.specs.declared.request.Request as request
 use Rattle.calculus.specs.declared.state.State.{State}
 use Rattle.calculus.specs.declared.state.Turn.{Turn}
-use Rattle.forms.specs.declared.read.Reading.{Reading}
 use Rattle.forms.specs.Read.{read}
-use Rattle.forms.specs.Request.{asked}
+use Rattle.forms.specs.Request.{Asked, asked}
 use Rattle.model.specs.State.{load, store}
 use Rattle.model.specs.Requests.{refused, accepted, with_node, with_route, nodes_given, leads_back, node_turn, route_turn, Move, refuse, moved, changed, performed}
 use Rattle.model.specs.Calls.{Reply, Call, call, answered, requested, replied_to, gives_network, is_own}
@@ -38,7 +37,7 @@ module _ (P : State → Type 0) (s : State) (c : Call) (same : P s)
     (gives : gives_network c ≡ true → s.opened ≡ false → (n : Network) → Given s.network n → P (accepted s n).state)
     (moves : (q : request.Request) → is_session (session_in q) ≡ true → ((u : ℕ) → is_own u c ≡ eqb (session_in q) u)
     → P (performed s (session_in q) (move_in s (session_in q) q)).state) where
-  asked_cases : (r : Reading) → Meaning (read c.line) r → P (replied_to s r).state
+  asked_cases : (r : Asked) → Meaning (read c.line) r → P (replied_to s r).state
   unfolding requested node_turn route_turn
   asked_cases r (refuses x w) = same
   asked_cases r (gives_node a k has needs i j n) =
@@ -46,7 +45,7 @@ module _ (P : State → Type 0) (s : State) (c : Call) (same : P s)
   asked_cases r (gives_route a b next n) =
       checked_either (λ (t : Turn). P t.state) (refused s) (λ x. same) _
       (λ e. gives n e.0 _ (by_route a b next (not-false (nodes_given s.network a b next) e.1.0) e.1.1.0))
-  asked_cases r (of_session q i h) = subst (λ (x : Reply). P x.state) (sym (requested_own s _ _ q i)) (moves q i h)
+  asked_cases r (of_session q i h) = subst (λ (x : Reply). P x.state) (sym (requested_own s q i)) (moves q i h)
   asked_cases r (shows h) = same
   asked_cases r (gives_back h) = same
 

@@ -76,7 +76,7 @@ module _ (network : Network) (t : Part) (k : Settled t) where
   -- ---- a line
 
   -- an own line that opens nothing
-  line_settled : (u : ℕ) (o : Option Form) → form_names u o ≡ true → form_opens u o ≡ false → Stays (seen_parsed network t (asked o).parsed)
+  line_settled : (u : ℕ) (o : Option Form) → form_names u o ≡ true → form_opens u o ≡ false → Stays (seen_parsed network t (asked o))
   line_settled u (some (node a x has needs)) e w = never e
   line_settled u (some (route a b next)) e w = never e
   line_settled u (some («open» v c d)) e w = never (sym w ∙ e)

@@ -19,13 +19,12 @@ use Rattle.calculus.specs.declared.state.Moved.{Moved}
 use Rattle.calculus.specs.declared.state.Part.{Part}
 use Rattle.calculus.specs.declared.state.State.{State}
 use Rattle.calculus.specs.declared.state.Turn.{Turn}
-use Rattle.forms.specs.declared.read.Parsed.{Parsed}
-use Rattle.forms.specs.declared.read.Parsed.TheVariants.{Asks, Refused}
-use Rattle.forms.specs.declared.read.Reading.{Reading}
+use Rattle.std.specs.Prelude as rust
+use Rattle.forms.specs.Request.{Asked}
 use Rattle.model.specs.Row.{one_more, one_less, lowered, stands}
 use Rattle.model.specs.State.{load, store, blank_session}
 use Rattle.model.specs.Requests.{Check, checked, refused, accepted, node_turn, route_turn, Move, refuse, moved, open_move, step_move, send_move, close_move, drop_move, changed, performed}
-use Rattle.model.specs.Calls.{answer, Reply, refusal_in, one_answer, requested, replied, replied_to}
+use Rattle.model.specs.Calls.{answer, Reply, refusal_in, one_answer, requested, replied_to}
 use Rattle.model.specs.Turn.{staying, moving, users_after, session_of, requested_of, turn_of, users_with, users_of, answers_ok, network_of, report_of, lines_as, state_with, Parts, Held}
 use Rattle.model.proofs.Checks.{checked_either}
 use Rattle.model.proofs.Users.{fold_length}
@@ -44,11 +43,11 @@ store_loaded s u =
 -- ---- a line
 
 -- the reply to the line r whose turn leaves m and these users
-abbrev pub reply_of : State → Reading → Moved → List ℕ → Reply
+abbrev pub reply_of : State → Asked → Moved → List ℕ → Reply
 reply_of s r m users =
     record {
-      state = state_with s (session_of r.parsed) m (cond (answers_ok m.answer) (network_of s.network r.has r.needs r.parsed) s.network) users;
-      lines = lines_as s.network users m.answer (report_of r.parsed);
+      state = state_with s (session_of r) m (cond (answers_ok m.answer) (network_of s.network r) s.network) users;
+      lines = lines_as s.network users m.answer (report_of r);
       refusal = refusal_in m.answer;
     }
 
@@ -111,27 +110,22 @@ send_still : (users : List ℕ) (w : Sender) (tag : ℕ) (t : Part) → users_af
 unfolding send_move
 send_still users w tag t = checked_either (λ (m : Move). users_after users m ≡ users) refuse (λ r. refl) _ (λ e. refl)
 
-parsed_whole : (s : State) (has needs : List Bool) (p : Parsed)
-    → let t = load s (session_of p) in
-    replied s has needs p
-    ≡ reply_of s (record { parsed = p; has = has; needs = needs }) (turn_of s.opened s.network s.users t p) (users_of s.network s.users t p)
-unfolding requested requested_of users_with node_turn route_turn
-parsed_whole s has needs (Asks (Node a k)) = given_whole s 1 _ _
-parsed_whole s has needs (Asks (Route a b n)) = given_whole s 1 _ _
-parsed_whole s has needs (Asks (Open u c d)) = still_whole s u.0 _ (open_still s.users s.network c d (load s u.0))
-parsed_whole s has needs (Asks (Step u k)) = performed_whole s u.0 _
-parsed_whole s has needs (Asks (Send u w tag)) = still_whole s u.0 _ (send_still s.users w tag (load s u.0))
-parsed_whole s has needs (Asks (Close u)) = performed_whole s u.0 _
-parsed_whole s has needs (Asks Show) = rw (stays s 1 Ok s.network)
-parsed_whole s has needs (Asks Net) = rw (stays s 1 Ok s.network)
-parsed_whole s has needs (Asks (Drop u e)) = performed_whole s u.0 _
-parsed_whole s has needs (Refused r) = refused_whole s 1 r s.network
-
 -- what `Calls` says of a line that was read is what `Turn` says of it in pieces
-pub turn_whole : (s : State) (r : Reading)
-    → let t = load s (session_of r.parsed) in
-    replied_to s r ≡ reply_of s r (turn_of s.opened s.network s.users t r.parsed) (users_of s.network s.users t r.parsed)
-turn_whole s r = parsed_whole s r.has r.needs r.parsed
+pub turn_whole : (s : State) (p : Asked)
+    → let t = load s (session_of p) in
+    replied_to s p
+    ≡ reply_of s p (turn_of s.opened s.network s.users t p) (users_of s.network s.users t p)
+unfolding requested requested_of users_with node_turn route_turn
+turn_whole s (rust.Ok (Node a k has needs)) = given_whole s 1 _ _
+turn_whole s (rust.Ok (Route a b n)) = given_whole s 1 _ _
+turn_whole s (rust.Ok (Open u c d)) = still_whole s u.0 _ (open_still s.users s.network c d (load s u.0))
+turn_whole s (rust.Ok (Step u k)) = performed_whole s u.0 _
+turn_whole s (rust.Ok (Send u w tag)) = still_whole s u.0 _ (send_still s.users w tag (load s u.0))
+turn_whole s (rust.Ok (Close u)) = performed_whole s u.0 _
+turn_whole s (rust.Ok Show) = rw (stays s 1 Ok s.network)
+turn_whole s (rust.Ok Net) = rw (stays s 1 Ok s.network)
+turn_whole s (rust.Ok (Drop u e)) = performed_whole s u.0 _
+turn_whole s (rust.Err r) = refused_whole s 1 r s.network
 
 -- ---- one call of a state that is held in pieces
 
@@ -159,11 +153,11 @@ module _ {s : State} {parts : List Part} (hs : Sized s) (h : Parts s parts) (u :
   left_sized n left k = omega (arith, store_sized s hs m.part hm u hu)
 
 -- the pieces that the code has after the call hold the state that the call leaves
-pub record Further (s : State) (r : Reading) (opened : Bool) (n : Network) (parts : List Part) (users : List ℕ) (m : Moved) (left : List ℕ) : Type 0 where
+pub record Further (s : State) (r : Asked) (opened : Bool) (n : Network) (parts : List Part) (users : List ℕ) (m : Moved) (left : List ℕ) : Type 0 where
   pub sized : Sized (replied_to s r).state
-  pub held : Held (replied_to s r).state (m.opens || opened) (cond (answers_ok m.answer) (network_of n r.has r.needs r.parsed) n)
-      (set parts (session_of r.parsed - 1) m.part) left
-  pub lines : (replied_to s r).lines ≡ lines_as n left m.answer (report_of r.parsed)
+  pub held : Held (replied_to s r).state (m.opens || opened) (cond (answers_ok m.answer) (network_of n r) n)
+      (set parts (session_of r - 1) m.part) left
+  pub lines : (replied_to s r).lines ≡ lines_as n left m.answer (report_of r)
 
 -- no line changes how many users are counted
 after_length : (users : List ℕ) (m : Move) → length (users_after users m) ≡ length users
@@ -172,7 +166,7 @@ after_length users (moved a p c) = fold_length one_more c.came (lowered users c.
 
 with_length : (n : Network) (users : List ℕ) (t : Part) (q : request.Request) → length (users_with n users t q) ≡ length users
 unfolding users_with
-with_length n users t (Node a k) = refl
+with_length n users t (Node a k has needs) = refl
 with_length n users t (Route a b next) = refl
 with_length n users t (Open u c d) = refl
 with_length n users t (Step u k) = after_length users (step_move n (stands users false) k.0 t)
@@ -182,21 +176,21 @@ with_length n users t Show = refl
 with_length n users t Net = refl
 with_length n users t (Drop u e) = after_length users (drop_move e t)
 
-users_length : (n : Network) (users : List ℕ) (t : Part) (p : Parsed) → length (users_of n users t p) ≡ length users
-users_length n users t (Asks q) = with_length n users t q
-users_length n users t (Refused r) = refl
+users_length : (n : Network) (users : List ℕ) (t : Part) (p : Asked) → length (users_of n users t p) ≡ length users
+users_length n users t (rust.Ok q) = with_length n users t q
+users_length n users t (rust.Err r) = refl
 
 module _ {s : State} {opened : Bool} {n : Network} {parts : List Part} {users : List ℕ} (hs : Sized s) (h : Held s opened n parts users) where
-  pub held_further : (r : Reading) → Numbered (session_of r.parsed) → (m : Moved) (left : List ℕ) (z : Part)
-      → m ≡ turn_of opened n users (get_or parts (session_of r.parsed - 1) z) r.parsed
-      → left ≡ users_of n users (get_or parts (session_of r.parsed - 1) z) r.parsed
+  pub held_further : (r : Asked) → Numbered (session_of r) → (m : Moved) (left : List ℕ) (z : Part)
+      → m ≡ turn_of opened n users (get_or parts (session_of r - 1) z) r
+      → left ≡ users_of n users (get_or parts (session_of r - 1) z) r
       → Whole m.part → Further s r opened n parts users m left
   held_further r hu m left z em el hm = rw (← h.opens, ← h.network, ← h.shared) go
     where
-      part : get_or parts (session_of r.parsed - 1) z ≡ load s (session_of r.parsed)
+      part : get_or parts (session_of r - 1) z ≡ load s (session_of r)
       part =
-          let e : session_of r.parsed - 1 + 1 ≡ session_of r.parsed = omega arith in
-          rw e at (h.own.each (session_of r.parsed - 1) (omega arith) z)
+          let e : session_of r - 1 + 1 ≡ session_of r = omega arith in
+          rw e at (h.own.each (session_of r - 1) (omega arith) z)
 
       reply : replied_to s r ≡ reply_of s r m left
       reply = rw (em, el, part, ← h.opens, ← h.network, ← h.shared) (turn_whole s r)
@@ -208,8 +202,8 @@ module _ {s : State} {opened : Bool} {n : Network} {parts : List Part} {users : 
       go =
           let e = ap (λ (x : Reply). x.state) reply in
           record {
-            sized = rw e (left_sized hs h.own (session_of r.parsed) hu m hm _ left size);
-            held = rw e (left_held hs h.own (session_of r.parsed) hu m hm _ left);
+            sized = rw e (left_sized hs h.own (session_of r) hu m hm _ left size);
+            held = rw e (left_held hs h.own (session_of r) hu m hm _ left);
             lines = ap (λ (x : Reply). x.lines) reply;
           }
 

@@ -9,13 +9,11 @@ use Rattle.calculus.specs.declared.request.Request as request
 use Rattle.calculus.specs.declared.request.Request.TheVariants.{Node, Route, Open, Step, Send, Close, Show, Net, Drop}
 use Rattle.calculus.specs.declared.state.State.{State}
 use Rattle.calculus.specs.declared.state.Turn.{Turn}
-use Rattle.forms.specs.declared.read.Parsed.{Parsed}
-use Rattle.forms.specs.declared.read.Parsed.TheVariants.{Asks, Refused}
-use Rattle.forms.specs.declared.read.Reading.{Reading}
+use Rattle.std.specs.Prelude as rust
 use Rattle.forms.specs.Bytes.{joined}
 use Rattle.forms.specs.Text.{Form, node, route, «open», step, send, close, show, net, take_down}
 use Rattle.forms.specs.Read.{read}
-use Rattle.forms.specs.Request.{asked}
+use Rattle.forms.specs.Request.{Asked, asked}
 use Rattle.forms.specs.Answer.{answer_text}
 use Rattle.model.specs.Lists.{those}
 use Rattle.model.specs.NetworkText.{network_lines}
@@ -63,25 +61,22 @@ reported s ls = record { state = s; lines = report ls; refusal = none }
 abbrev pub short : State → Reply
 short s = record { state = s; lines = no_lines; refusal = some Short }
 
--- a request with its credentials, if it is a node's
-unfoldable pub requested : State → List Bool → List Bool → request.Request → Reply
-requested s has needs (Node a k) = one_answer (node_turn s a k has needs)
-requested s has needs (Route a b n) = one_answer (route_turn s a b n)
-requested s has needs (Open u c d) = one_answer (in_session s u.0 (open_move s.network c d))
-requested s has needs (Step u k) = one_answer (in_session s u.0 (step_move s.network (stands s.users false) k.0))
-requested s has needs (Send u w tag) = one_answer (in_session s u.0 (send_move w tag))
-requested s has needs (Close u) = one_answer (in_session s u.0 close_move)
-requested s has needs Show = reported s (shown_lines s.users)
-requested s has needs Net = reported s (network_lines s.network)
-requested s has needs (Drop u e) = one_answer (in_session s u.0 (drop_move e))
+-- a request
+unfoldable pub requested : State → request.Request → Reply
+requested s (Node a k has needs) = one_answer (node_turn s a k has needs)
+requested s (Route a b n) = one_answer (route_turn s a b n)
+requested s (Open u c d) = one_answer (in_session s u.0 (open_move s.network c d))
+requested s (Step u k) = one_answer (in_session s u.0 (step_move s.network (stands s.users false) k.0))
+requested s (Send u w tag) = one_answer (in_session s u.0 (send_move w tag))
+requested s (Close u) = one_answer (in_session s u.0 close_move)
+requested s Show = reported s (shown_lines s.users)
+requested s Net = reported s (network_lines s.network)
+requested s (Drop u e) = one_answer (in_session s u.0 (drop_move e))
 
 -- "every call 0, 1, 2": 1 and 2 are the reading's
-abbrev pub replied : State → List Bool → List Bool → Parsed → Reply
-replied s has needs (Asks q) = requested s has needs q
-replied s has needs (Refused r) = one_answer (refused s r)
-
-abbrev pub replied_to : State → Reading → Reply
-replied_to s r = replied s r.has r.needs r.parsed
+abbrev pub replied_to : State → Asked → Reply
+replied_to s (rust.Ok q) = requested s q
+replied_to s (rust.Err r) = one_answer (refused s r)
 
 -- a call with this line and a lent output of `size` bytes
 unfoldable pub answered : State → List ℕ → ℕ → Reply

@@ -9,11 +9,11 @@ use Rattle.calculus.specs.declared.packet.Slot.{Slot}
 use Rattle.calculus.specs.declared.request.Request as request
 use Rattle.calculus.specs.declared.request.Request.TheVariants.{Node, Route, Open, Step, Send, Close, Show, Net, Drop}
 use Rattle.calculus.specs.declared.state.State.{State}
-use Rattle.forms.specs.declared.read.Parsed.{Parsed}
-use Rattle.forms.specs.declared.read.Parsed.TheVariants.{Asks, Refused}
+use Rattle.std.specs.Prelude as rust
 use Rattle.forms.specs.Text.{take_down}
 use Rattle.forms.specs.Read.{read}
-use Rattle.forms.specs.Request.{asked}
+use Rattle.forms.specs.Request.{asked, Asked}
+use Rattle.model.specs.Lists.{place}
 use Rattle.model.specs.Row.{held}
 use Rattle.model.specs.State.{fresh, load, found_item}
 use Rattle.model.specs.Calls.{Call, call, is_accepted, after}
@@ -45,7 +45,7 @@ found_events u (Some (at, s)) = step_events u s.item
 
 -- the events of a request that is accepted on the state s
 abbrev pub request_events : State → request.Request → List Event
-request_events s (Node a k) = []
+request_events s (Node a k has needs) = []
 request_events s (Route a b next) = []
 request_events s (Open u c d) = []
 request_events s (Step u k) = found_events u.0 (found_item k.0 (load s u.0).items)
@@ -56,13 +56,13 @@ request_events s Net = []
 request_events s (Drop u e) = removed ∷ []
 
 -- the same, of a line that was read
-abbrev pub line_events : State → Parsed → List Event
-line_events s (Asks q) = request_events s q
-line_events s (Refused r) = []
+abbrev pub line_events : State → Asked → List Event
+line_events s (rust.Ok q) = request_events s q
+line_events s (rust.Err r) = []
 
 -- the events of a call: none where it is refused
 abbrev pub call_events : State → Call → List Event
-call_events s c = cond (is_accepted (call s c).refusal) (line_events s (asked (read c.line)).parsed) []
+call_events s c = cond (is_accepted (call s c).refusal) (line_events s (asked (read c.line))) []
 
 -- the events of a list of calls, in its order
 unfoldable pub events : State → List Call → List Event

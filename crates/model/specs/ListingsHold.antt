@@ -14,11 +14,10 @@ use Rattle.calculus.specs.declared.request.Request.TheVariants.{Node, Route, Ope
 use Rattle.calculus.specs.declared.session.Row.{Row}
 use Rattle.calculus.specs.declared.session.Stage.{Stage}
 use Rattle.calculus.specs.declared.state.State.{State}
-use Rattle.forms.specs.declared.read.Parsed.{Parsed}
-use Rattle.forms.specs.declared.read.Parsed.TheVariants.{Asks, Refused}
+use Rattle.std.specs.Prelude as rust
 use Rattle.forms.specs.Read.{read}
-use Rattle.forms.specs.Request.{asked}
-use Rattle.model.specs.Item.{is_wait}
+use Rattle.forms.specs.Request.{asked, Asked}
+use Rattle.model.specs.Item.{is_wait, vacant}
 use Rattle.model.specs.State.{fresh, load}
 use Rattle.model.specs.Calls.{Call, call, lines_of, after, replies, roomy_call}
 use Rattle.model.specs.Noninterference.{View, view}
@@ -56,7 +55,7 @@ lowest (Some x ∷ l) = lower (cond (is_wait x.item) 0 x.number.0) (lowest l)
 
 -- a step is one of the session's lowest item
 abbrev pub steps_lowest : State → request.Request → Bool
-steps_lowest s (Node a k) = true
+steps_lowest s (Node a k has needs) = true
 steps_lowest s (Route a b n) = true
 steps_lowest s (Open u c d) = true
 steps_lowest s (Step u k) = eqb k.0 (lowest (load s u.0).items)
@@ -66,13 +65,13 @@ steps_lowest s Show = true
 steps_lowest s Net = true
 steps_lowest s (Drop u e) = true
 
-abbrev pub parsed_lowest : State → Parsed → Bool
-parsed_lowest s (Asks q) = steps_lowest s q
-parsed_lowest s (Refused r) = true
+abbrev pub parsed_lowest : State → Asked → Bool
+parsed_lowest s (rust.Ok q) = steps_lowest s q
+parsed_lowest s (rust.Err r) = true
 
 abbrev pub only_lowest : State → Listing → Bool
 only_lowest s [] = true
-only_lowest s (e ∷ l) = parsed_lowest s (asked (read e.line)).parsed && only_lowest (call s (call_of e)).state l
+only_lowest s (e ∷ l) = parsed_lowest s (asked (read e.line)) && only_lowest (call s (call_of e)).state l
 
 -- ---- what session 1 holds
 

@@ -12,8 +12,8 @@ use Rattle.calculus.specs.declared.request.Request.TheVariants.{Node, Route, Ope
 use Rattle.calculus.specs.declared.state.Moved.{Moved}
 use Rattle.calculus.specs.declared.state.Part.{Part}
 use Rattle.calculus.specs.declared.state.State.{State}
-use Rattle.forms.specs.declared.read.Parsed.{Parsed}
-use Rattle.forms.specs.declared.read.Parsed.TheVariants.{Asks, Refused}
+use Rattle.std.specs.Prelude as rust
+use Rattle.forms.specs.Request.{Asked}
 use Rattle.model.specs.NetworkText.{network_lines}
 use Rattle.model.specs.Row.{stands, raised, lowered}
 use Rattle.model.specs.State.{load, store}
@@ -45,7 +45,7 @@ pub record Moves (users : List ℕ) (t : Part) (m : Move) (left : List ℕ) (r :
 
 -- the session whose part a request is about; any session's serves where it names none
 abbrev pub session_in : request.Request → ℕ
-session_in (Node a k) = 1
+session_in (Node a k has needs) = 1
 session_in (Route a b n) = 1
 session_in (Open u c d) = u.0
 session_in (Step u k) = u.0
@@ -55,13 +55,13 @@ session_in Show = 1
 session_in Net = 1
 session_in (Drop u e) = u.0
 
-abbrev pub session_of : Parsed → ℕ
-session_of (Asks q) = session_in q
-session_of (Refused r) = 1
+abbrev pub session_of : Asked → ℕ
+session_of (rust.Ok q) = session_in q
+session_of (rust.Err r) = 1
 
 -- what a request does to the part t, and answers; (ok) stands for a report, which is accepted
 unfoldable pub requested_of : Bool → Network → List ℕ → Part → request.Request → Moved
-requested_of opened n users t (Node a k) = staying t (checked No (node_checks opened n a) Ok)
+requested_of opened n users t (Node a k has needs) = staying t (checked No (node_checks opened n a) Ok)
 requested_of opened n users t (Route a b next) = staying t (checked No (route_checks opened n a b next) Ok)
 requested_of opened n users t (Open u c d) = moving t (open_move n c d t)
 requested_of opened n users t (Step u k) = moving t (step_move n (stands users false) k.0 t)
@@ -71,13 +71,13 @@ requested_of opened n users t Show = staying t Ok
 requested_of opened n users t Net = staying t Ok
 requested_of opened n users t (Drop u e) = moving t (drop_move e t)
 
-abbrev pub turn_of : Bool → Network → List ℕ → Part → Parsed → Moved
-turn_of opened n users t (Asks q) = requested_of opened n users t q
-turn_of opened n users t (Refused r) = staying t (No r)
+abbrev pub turn_of : Bool → Network → List ℕ → Part → Asked → Moved
+turn_of opened n users t (rust.Ok q) = requested_of opened n users t q
+turn_of opened n users t (rust.Err r) = staying t (No r)
 
 -- the users that it leaves: only a step, a close and a drop move them
 unfoldable pub users_with : Network → List ℕ → Part → request.Request → List ℕ
-users_with n users t (Node a k) = users
+users_with n users t (Node a k has needs) = users
 users_with n users t (Route a b next) = users
 users_with n users t (Open u c d) = users
 users_with n users t (Step u k) = users_after users (step_move n (stands users false) k.0 t)
@@ -87,9 +87,9 @@ users_with n users t Show = users
 users_with n users t Net = users
 users_with n users t (Drop u e) = users_after users (drop_move e t)
 
-abbrev pub users_of : Network → List ℕ → Part → Parsed → List ℕ
-users_of n users t (Asks q) = users_with n users t q
-users_of n users t (Refused r) = users
+abbrev pub users_of : Network → List ℕ → Part → Asked → List ℕ
+users_of n users t (rust.Ok q) = users_with n users t q
+users_of n users t (rust.Err r) = users
 
 -- where a call is answered (ok), the network may change
 abbrev pub answers_ok : Answer → Bool
@@ -105,24 +105,24 @@ answers_ok Closed = false
 answers_ok (No r) = false
 
 -- the network once an accepted node or route call has given its part
-abbrev pub network_with : Network → List Bool → List Bool → request.Request → Network
-network_with n has needs (Node a k) = with_node n a k has needs
-network_with n has needs (Route a b next) = with_route n a b next
-network_with n has needs (Open u c d) = n
-network_with n has needs (Step u k) = n
-network_with n has needs (Send u w tag) = n
-network_with n has needs (Close u) = n
-network_with n has needs Show = n
-network_with n has needs Net = n
-network_with n has needs (Drop u e) = n
+abbrev pub network_with : Network → request.Request → Network
+network_with n (Node a k has needs) = with_node n a k has needs
+network_with n (Route a b next) = with_route n a b next
+network_with n (Open u c d) = n
+network_with n (Step u k) = n
+network_with n (Send u w tag) = n
+network_with n (Close u) = n
+network_with n Show = n
+network_with n Net = n
+network_with n (Drop u e) = n
 
-abbrev pub network_of : Network → List Bool → List Bool → Parsed → Network
-network_of n has needs (Asks q) = network_with n has needs q
-network_of n has needs (Refused r) = n
+abbrev pub network_of : Network → Asked → Network
+network_of n (rust.Ok q) = network_with n q
+network_of n (rust.Err r) = n
 
 -- the report that a request asks for, if it asks for one
 abbrev pub report_in : request.Request → Report
-report_in (Node a k) = NoReport
+report_in (Node a k has needs) = NoReport
 report_in (Route a b n) = NoReport
 report_in (Open u c d) = NoReport
 report_in (Step u k) = NoReport
@@ -133,9 +133,9 @@ report_in Net = WholeNetwork
 report_in (Drop u e) = NoReport
 
 -- the report that a line asks for
-abbrev pub report_of : Parsed → Report
-report_of (Asks q) = report_in q
-report_of (Refused r) = NoReport
+abbrev pub report_of : Asked → Report
+report_of (rust.Ok q) = report_in q
+report_of (rust.Err r) = NoReport
 
 -- the lines of a report; where there is none, that of the answer a
 abbrev pub lines_as : Network → List ℕ → Answer → Report → Lines

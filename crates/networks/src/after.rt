@@ -3,11 +3,10 @@ ghost use Rattle.std.specs.Prelude.{◌≡◌, cond, set};
 ghost use Rattle.model.specs.Requests as spec;
 ghost use Rattle.model.specs.Turn as turns;
 
-use calculus::answer::Answer;
+use calculus::answer::{Answer, Refusal};
 use calculus::network::{Kind, Network, Node};
 use calculus::number::pred;
 use calculus::request::Request;
-use forms::read::{Parsed, Reading};
 use lookups::network::route_place;
 
 // Past the end of a table nothing is stored, as the definitions have it.
@@ -38,11 +37,16 @@ fn with_route(n: &mut Network, a: u8, b: u8, hop: u8)
 }
 
 // The network with what a node or route call gives.
-fn network_with(n: &mut Network, has: [bool; 64], needs: [bool; 64], q: Request)
-    ensures { n.new ≡ turns.network_with n.old has needs q }
+fn network_with(n: &mut Network, q: Request)
+    ensures { n.new ≡ turns.network_with n.old q }
 {
     match q {
-        Request::Node(a, kind) => with_node(n, a, kind, has, needs),
+        Request::Node {
+            node,
+            kind,
+            has,
+            needs,
+        } => with_node(n, node, kind, has, needs),
         Request::Route {
             at,
             destination,
@@ -52,11 +56,11 @@ fn network_with(n: &mut Network, has: [bool; 64], needs: [bool; 64], q: Request)
     }
 }
 
-fn network_of(n: &mut Network, has: [bool; 64], needs: [bool; 64], p: Parsed)
-    ensures { n.new ≡ turns.network_of n.old has needs p }
+fn network_of(n: &mut Network, asked: Result<Request, Refusal>)
+    ensures { n.new ≡ turns.network_of n.old asked }
 {
-    if let Parsed::Asks(q) = p {
-        network_with(n, has, needs, q);
+    if let Ok(q) = asked {
+        network_with(n, q);
     }
 }
 
@@ -70,11 +74,11 @@ fn is_ok(answer: Answer) -> bool
     }
 }
 
-// Adds to the network, once the line that was read as `r` is answered, what an accepted node or route call gives.
-pub fn network_after(n: &mut Network, r: Reading, answer: Answer)
-    ensures { n.new ≡ cond (turns.answers_ok answer) (turns.network_of n.old r.has r.needs r.parsed) n.old }
+// Adds to the network, once a line is answered that asks this, what an accepted node or route call gives.
+pub fn network_after(n: &mut Network, asked: Result<Request, Refusal>, answer: Answer)
+    ensures { n.new ≡ cond (turns.answers_ok answer) (turns.network_of n.old asked) n.old }
 {
     if is_ok(answer) {
-        network_of(n, r.has, r.needs, r.parsed);
+        network_of(n, asked);
     }
 }

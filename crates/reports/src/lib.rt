@@ -14,10 +14,9 @@ use crate::network::put_network;
 use crate::show::put_shown;
 use answers::room::has_room;
 use answers::write::write;
-use calculus::answer::Answer;
+use calculus::answer::{Answer, Refusal};
 use calculus::network::Network;
 use calculus::request::{Report, Request};
-use forms::read::Parsed;
 
 // No call's lines have more bytes.
 const ROOM: usize = 65536;
@@ -27,33 +26,19 @@ fn report_in(q: Request) -> Report
     ensures { result ≡ turns.report_in q }
 {
     match q {
-        Request::Node(_, _) => Report::NoReport,
-        Request::Route {
-            at: _,
-            destination: _,
-            next: _,
-        } => Report::NoReport,
-        Request::Open {
-            session: _,
-            client: _,
-            server: _,
-        } => Report::NoReport,
-        Request::Step(_, _) => Report::NoReport,
-        Request::Send(_, _, _) => Report::NoReport,
-        Request::Close(_) => Report::NoReport,
         Request::Show => Report::AllAssociations,
         Request::Net => Report::WholeNetwork,
-        Request::Drop(_, _) => Report::NoReport,
+        _ => Report::NoReport,
     }
 }
 
 // The report that a line asks for.
-fn report_of(p: Parsed) -> Report
-    ensures { result ≡ turns.report_of p }
+fn report_of(asked: Result<Request, Refusal>) -> Report
+    ensures { result ≡ turns.report_of asked }
 {
-    match p {
-        Parsed::Asks(q) => report_in(q),
-        Parsed::Refused(_) => Report::NoReport,
+    match asked {
+        Ok(q) => report_in(q),
+        Err(_) => Report::NoReport,
     }
 }
 
@@ -83,13 +68,13 @@ pub fn write_lines(
     at: usize,
     n: &Network,
     users: &[u16; 2048],
-    p: Parsed,
+    asked: Result<Request, Refusal>,
     answer: Answer,
 ) -> usize
-    ensures { Writes 65536 out.old at (lines_text (turns.lines_as n.now users.now answer (turns.report_of p))) out.new result }
+    ensures { Writes 65536 out.old at (lines_text (turns.lines_as n.now users.now answer (turns.report_of asked))) out.new result }
 {
     if has_room(out.len(), at, ROOM) {
-        let report = report_of(p);
+        let report = report_of(asked);
         return put_lines(out, at, n, users, answer, report);
     }
     at

@@ -15,10 +15,9 @@ use Rattle.calculus.specs.declared.state.Part.{Part}
 use Rattle.calculus.specs.declared.state.State.{State}
 use Rattle.calculus.proofs.Tests.{clash, within_bounds}
 use Rattle.forms.specs.declared.line.Line.{Line}
-use Rattle.forms.specs.declared.read.Reading.{Reading}
 use Rattle.forms.specs.Line.{next_line}
 use Rattle.forms.specs.Read.{read}
-use Rattle.forms.specs.Request.{asked}
+use Rattle.forms.specs.Request.{Asked, asked}
 use Rattle.forms.proofs.Splits.{Inside, line_inside}
 use Rattle.model.specs.Batch.{Batch, is_over, is_over_at, next_call, one_more, answered_lines, answered_text}
 use Rattle.model.specs.Calls.{answered, replied_to, lines_text, lines_of}
@@ -85,14 +84,14 @@ call_none text from room = go (is_over_at text from room) refl
 -- ---- one line more
 
 -- r is what the line from `from` to `stop` is read as
-pub record Reads (text : List ℕ) (from stop : ℕ) (r : Reading) : Type 0 where
+pub record Reads (text : List ℕ) (from stop : ℕ) (r : Asked) : Type 0 where
   pub same : r ≡ asked (read (take (stop - from) (drop from text)))
 
-pub reads_numbered : {text : List ℕ} {from stop : ℕ} {r : Reading} → Reads text from stop r → (1 ≤ session_of r.parsed) × (session_of r.parsed ≤ 8)
+pub reads_numbered : {text : List ℕ} {from stop : ℕ} {r : Asked} → Reads text from stop r → (1 ≤ session_of r) × (session_of r ≤ 8)
 reads_numbered {text} {from} {stop} x = rw x.same (within_bounds 1 8 _ (asked_session (read (take (stop - from) (drop from text)))))
 
 -- the line is a call: its answers, put into the output, are those of the call
-module _ (s : State) (text out : List ℕ) (from written stop next : ℕ) (r : Reading) where
+module _ (s : State) (text out : List ℕ) (from written stop next : ℕ) (r : Asked) where
   one_more_lem : ltb (length out - written) 65536 ≡ false → Reads text from stop r
       → {most : ℕ} {out' : List ℕ} {written' : ℕ} → Puts most out written (lines_of (replied_to s r)) out' written' → written + most ≤ length out
       → one_more text (reached s out from written) (Some (record { stop = stop; next = next })) ≡ reached (replied_to s r).state out' next written'
@@ -105,16 +104,16 @@ module _ (s : State) (text out : List ℕ) (from written stop next : ℕ) (r : R
 
 module _ {s : State} {text out₀ out : List ℕ} {parts : List Part} {opened : Bool} {n : Network} {users : List ℕ} {from written : ℕ}
     {going : Bool} (w : Answering s text out₀ out parts opened n users from written going) where
-  pub answering_more : going ≡ true → {stop next : ℕ} → Next text from (length out - written) stop next → (r : Reading) → Reads text from stop r
-      → (u : ℕ) → u ≡ session_of r.parsed → (m : Moved) (left : List ℕ) (z : Part)
-      → m ≡ turn_of opened n users (get_or parts (u - 1) z) r.parsed → left ≡ users_of n users (get_or parts (u - 1) z) r.parsed
+  pub answering_more : going ≡ true → {stop next : ℕ} → Next text from (length out - written) stop next → (r : Asked) → Reads text from stop r
+      → (u : ℕ) → u ≡ session_of r → (m : Moved) (left : List ℕ) (z : Part)
+      → m ≡ turn_of opened n users (get_or parts (u - 1) z) r → left ≡ users_of n users (get_or parts (u - 1) z) r
       → Whole m.part → (opened' : Bool) → opened' ≡ (m.opens || opened)
-      → (n' : Network) → n' ≡ cond (answers_ok m.answer) (network_of n r.has r.needs r.parsed) n → {out' : List ℕ} {written' : ℕ}
-      → Writes 65536 out written (lines_text (lines_as n left m.answer (report_of r.parsed))) out' written'
+      → (n' : Network) → n' ≡ cond (answers_ok m.answer) (network_of n r) n → {out' : List ℕ} {written' : ℕ}
+      → Writes 65536 out written (lines_text (lines_as n left m.answer (report_of r))) out' written'
       → Answering s text out₀ out' (set parts (u - 1) m.part) opened' n' left next written' going
   answering_more up {stop} {next} f r reads u eu m left z em el hm opened' eo n' en {out'} {written'} p = go w.fuel w.same w.enough
     where
-      numbered : Numbered (session_of r.parsed)
+      numbered : Numbered (session_of r)
       numbered = let h = reads_numbered reads in record { least = h.0; most = h.1 }
 
       further : Further w.state r opened n parts users m left

@@ -11,9 +11,8 @@ use lib.Seq.{sets-eq}
 use Rattle.calculus.specs.declared.network.Network.{Network}
 use Rattle.calculus.specs.declared.state.Moved.{Moved}
 use Rattle.calculus.specs.declared.state.State.{State}
-use Rattle.forms.specs.declared.read.Reading.{Reading}
 use Rattle.forms.specs.Read.{read}
-use Rattle.forms.specs.Request.{asked}
+use Rattle.forms.specs.Request.{Asked, asked}
 use Rattle.model.specs.State.{load, store}
 use Rattle.model.specs.Calls as calls
 use Rattle.model.specs.Calls.{answered, refusal_in, lines_text, lines_of}
@@ -36,17 +35,17 @@ replies {out} {n = n} m h r =
     }
 
 -- the line is read as r, which is about session u; m and `users` are what the turn leaves
-module _ (s : State) (line : List ℕ) (r : Reading) (er : r ≡ asked (read line)) (u : ℕ) (eu : u ≡ session_of r.parsed) (m : Moved)
-    (users : List ℕ) (em : m ≡ turn_of s.opened s.network s.users (load s u) r.parsed)
-    (el : users ≡ users_of s.network s.users (load s u) r.parsed) where
+module _ (s : State) (line : List ℕ) (r : Asked) (er : r ≡ asked (read line)) (u : ℕ) (eu : u ≡ session_of r) (m : Moved)
+    (users : List ℕ) (em : m ≡ turn_of s.opened s.network s.users (load s u) r)
+    (el : users ≡ users_of s.network s.users (load s u) r) where
   answered_turn : (size : ℕ) → 65536 ≤ size → answered s line size ≡ reply_of s r m users
   unfolding answered
   answered_turn size h = rw (le-ltb size 65536 h, ← er, em, el, eu) (turn_whole s r)
 
   pub replied : {out left : List ℕ} → 65536 ≤ length out → {written : ℕ}
-      → Writes 65536 out 0 (lines_text (lines_as s.network users m.answer (report_of r.parsed))) left written
+      → Writes 65536 out 0 (lines_text (lines_as s.network users m.answer (report_of r))) left written
       → (next : State) → next ≡ store s u m.part → (opened : Bool) → opened ≡ (m.opens || s.opened)
-      → (n : Network) → n ≡ cond (answers_ok m.answer) (network_of s.network r.has r.needs r.parsed) s.network
+      → (n : Network) → n ≡ cond (answers_ok m.answer) (network_of s.network r) s.network
       → (status : Status) → status ≡ status_of (refusal_in m.answer)
       → Replies out (answered s line (length out)) left
       (record {

@@ -56,19 +56,18 @@ pub fn call(s: State, line: &[u8], out: &mut [u8]) -> Reply
             status: Status::Refused(Refusal::Short),
         };
     }
-    let reading = read(line);
-    let parsed = reading.parsed;
-    let session = session_of(parsed);
+    let asked = read(line);
+    let session = session_of(asked);
     let mut network = s.network;
     let mut users = s.users;
     let part = load(s, session);
-    let moved = turn(s.opened, &network, &mut users, part, parsed);
+    let moved = turn(s.opened, &network, &mut users, part, asked);
     let answer = moved.answer;
     let left = moved.part;
-    let written = write_lines(out, 0, &network, &users, parsed, answer);
+    let written = write_lines(out, 0, &network, &users, asked, answer);
     let status = status_of(answer);
     let opened = is_opened(moved.opens, s.opened);
-    network_after(&mut network, reading, answer);
+    network_after(&mut network, asked, answer);
     let mut state = store(s, session, left);
     state.opened = opened;
     state.network = network;

@@ -55,18 +55,17 @@ pub fn calls(s: State, text: &[u8], out: &mut [u8]) -> Answered
     while going {
         match next_call(text, from, out.len() - written) {
             Some(line) => {
-                let reading = read(&text[from..line.stop]);
-                let parsed = reading.parsed;
-                let session = session_of(parsed);
+                let asked = read(&text[from..line.stop]);
+                let session = session_of(asked);
                 let at = session.0 as usize - 1;
                 let part = parts[at];
-                let moved = turn(opened, &network, &mut users, part, parsed);
+                let moved = turn(opened, &network, &mut users, part, asked);
                 let answer = moved.answer;
                 let left = moved.part;
                 parts[at] = left;
                 opened = is_opened(moved.opens, opened);
-                written = write_lines(out, written, &network, &users, parsed, answer);
-                network_after(&mut network, reading, answer);
+                written = write_lines(out, written, &network, &users, asked, answer);
+                network_after(&mut network, asked, answer);
                 from = line.next;
             }
             None => {

@@ -5,12 +5,11 @@ ghost use Rattle.std.specs.Prelude.{◌≡◌, ◌||◌};
 ghost use Rattle.model.specs.Requests as spec;
 ghost use Rattle.model.specs.Turn as turns;
 
-use calculus::answer::Answer;
+use calculus::answer::{Answer, Refusal};
 use calculus::network::Network;
 use calculus::number::SessionNumber;
 use calculus::request::Request;
 use calculus::state::{Moved, Part};
-use forms::read::Parsed;
 use lookups::blank::blank_part;
 use networks::node::node_answer;
 use networks::route::route_answer;
@@ -30,33 +29,22 @@ fn session_in(q: Request) -> SessionNumber
     ensures { result ≡ record { 0 = turns.session_in q } }
 {
     match q {
-        Request::Node(_, _) => SessionNumber(1),
-        Request::Route {
-            at: _,
-            destination: _,
-            next: _,
-        } => SessionNumber(1),
-        Request::Open {
-            session,
-            client: _,
-            server: _,
-        } => session,
-        Request::Step(session, _) => session,
-        Request::Send(session, _, _) => session,
-        Request::Close(session) => session,
-        Request::Show => SessionNumber(1),
-        Request::Net => SessionNumber(1),
-        Request::Drop(session, _) => session,
+        Request::Open { session, .. }
+        | Request::Step { session, .. }
+        | Request::Send { session, .. }
+        | Request::Close(session)
+        | Request::Drop { session, .. } => session,
+        _ => SessionNumber(1),
     }
 }
 
 // The session whose part a line is about; any session's serves where it names none.
-pub fn session_of(p: Parsed) -> SessionNumber
-    ensures { result ≡ record { 0 = turns.session_of p } }
+pub fn session_of(asked: Result<Request, Refusal>) -> SessionNumber
+    ensures { result ≡ record { 0 = turns.session_of asked } }
 {
-    match p {
-        Parsed::Asks(q) => session_in(q),
-        Parsed::Refused(_) => SessionNumber(1),
+    match asked {
+        Ok(q) => session_in(q),
+        Err(_) => SessionNumber(1),
     }
 }
 
@@ -83,8 +71,8 @@ fn requested(opened: bool, n: &Network, users: &mut [u16; 2048], t: Part, q: Req
     ensures { (result ≡ turns.requested_of opened n.now users.old t q) × (users.new ≡ turns.users_with n.now users.old t q) }
 {
     match q {
-        Request::Node(a, _) => {
-            let answer = node_answer(opened, n, a);
+        Request::Node { node, .. } => {
+            let answer = node_answer(opened, n, node);
             staying(t, answer)
         }
         Request::Route {
@@ -95,26 +83,22 @@ fn requested(opened: bool, n: &Network, users: &mut [u16; 2048], t: Part, q: Req
             let answer = route_answer(opened, n, at, destination, next);
             staying(t, answer)
         }
-        Request::Open {
-            session: _,
-            client,
-            server,
-        } => open(n, t, client, server),
-        Request::Step(_, item) => step(n, users, t, item),
-        Request::Send(_, sender, tag) => send(t, sender, tag),
+        Request::Open { client, server, .. } => open(n, t, client, server),
+        Request::Step { item, .. } => step(n, users, t, item),
+        Request::Send { sender, tag, .. } => send(t, sender, tag),
         Request::Close(_) => closed(users, t),
         Request::Show => staying(t, Answer::Ok),
         Request::Net => staying(t, Answer::Ok),
-        Request::Drop(_, establishment) => drop(users, t, establishment),
+        Request::Drop { establishment, .. } => drop(users, t, establishment),
     }
 }
 
 // What a line does to the part `t` of its session and to the users, and its answer.
-pub fn turn(opened: bool, n: &Network, users: &mut [u16; 2048], t: Part, p: Parsed) -> Moved
-    ensures { (result ≡ turns.turn_of opened n.now users.old t p) × (users.new ≡ turns.users_of n.now users.old t p) }
+pub fn turn(opened: bool, n: &Network, users: &mut [u16; 2048], t: Part, asked: Result<Request, Refusal>) -> Moved
+    ensures { (result ≡ turns.turn_of opened n.now users.old t asked) × (users.new ≡ turns.users_of n.now users.old t asked) }
 {
-    match p {
-        Parsed::Asks(q) => requested(opened, n, users, t, q),
-        Parsed::Refused(r) => staying(t, Answer::No(r)),
+    match asked {
+        Ok(q) => requested(opened, n, users, t, q),
+        Err(r) => staying(t, Answer::No(r)),
     }
 }

@@ -11,9 +11,9 @@ use Rattle.simulator.proofs.call.call.Goals as goal
 pub returns : goal.returns
 returns c =
     let numbered : is_session c.session_of-session.result.0 ≡ true =
-    rw (c.session_of-session.ensures, c.read-reading.ensures) (asked_session (read c.args.line.now)) in
+    rw (c.session_of-session.ensures, c.read-asked.ensures) (asked_session (read c.args.line.now)) in
     let part = rw numbered at c.load-part.ensures in
-    replied c.args.s c.args.line.now c.read-reading.result c.read-reading.ensures c.session_of-session.result.0
+    replied c.args.s c.args.line.now c.read-asked.result c.read-asked.ensures c.session_of-session.result.0
     (rw c.session_of-session.ensures) c.turn-moved.result c.turn-moved.new.users
     (rw (← part) c.turn-moved.ensures.0) (rw (← part) c.turn-moved.ensures.1)
     (omega arith) c.write_lines-written.ensures c.store-state.result (rw numbered at c.store-state.ensures)

@@ -14,7 +14,7 @@ found c = next_found _ _ _ _ (sym c.in-Some.ensures)
 -- the session that it names
 numbered : (c : After-session_of-session) → (1 ≤ c.session_of-session.result.0) × (c.session_of-session.result.0 ≤ 8)
 numbered c =
-    let r : Reads c.args.text.now c.loop-going.from c.in-Some.line.stop c.read-reading.result = record { same = c.read-reading.ensures } in
+    let r : Reads c.args.text.now c.loop-going.from c.in-Some.line.stop c.read-asked.result = record { same = c.read-asked.ensures } in
     rw c.session_of-session.ensures (reads_numbered r)
 
 pub loop-going-init : goal.loop-going-init
@@ -38,7 +38,7 @@ pub loop-going-preserved-in-Some : goal.loop-going-preserved-in-Some
 loop-going-preserved-in-Some c =
     let w : Whole c.turn-moved.result.part = record { items = search rules; rows = search rules } in
     answering_more c.loop-going.invariant c.loop-going-test.true (found (goal.at.loop-going-preserved-in-Some c).In-Some)
-    c.read-reading.result (record { same = c.read-reading.ensures }) c.session_of-session.result.0 (rw c.session_of-session.ensures)
+    c.read-asked.result (record { same = c.read-asked.ensures }) c.session_of-session.result.0 (rw c.session_of-session.ensures)
     c.turn-moved.result c.turn-moved.new.users _ c.turn-moved.ensures.0 c.turn-moved.ensures.1 w c.is_opened-opened.result
     c.is_opened-opened.ensures c.network_after.new.n c.network_after.ensures c.write_lines-written.ensures
 
