@@ -1,13 +1,22 @@
 -- A text put into an output. Private functions of `answers` and `reports` cite it. Assumes nothing.
 use Rattle.std.specs.Prelude.{ℕ, ◌+◌, ◌≡◌, Bool, cond, List, [], length}
 use Rattle.std.proofs.lemmas.List.Edits.{sets}
-use Rattle.forms.specs.Text.{number_text}
+use Rattle.answers.specs.declared.put.Output.{Output}
+use Rattle.answers.specs.Write.{Writes}
 
 -- the output l, with the text put from place at on, is m: its other bytes are as they were, and the place behind the text is next
 pub record Put (l : List ℕ) (at : ℕ) (text m : List ℕ) (next : ℕ) : Type 0 where
   pub place : next ≡ at + length text
   pub bytes : m ≡ sets l at text
 
--- a credential behind a space, if it is held
-abbrev pub credential_text : ℕ → Bool → List ℕ
-credential_text n held = cond held (number_text n) []
+-- the text is put into s at its place, which leaves t, the same lent output with the place behind the text
+pub record Adds (s : Output) (text : List ℕ) (t : Output) : Type 0 where
+  pub put : Put s.out.now s.at text t.out.now t.at
+  pub size : length t.out.now ≡ length s.out.now
+  pub same : t.out.ghost_name ≡ s.out.ghost_name
+
+-- where `room` bytes are left in s the text is added, elsewhere nothing is, which leaves t, the same lent output
+pub record Written (room : ℕ) (s : Output) (text : List ℕ) (t : Output) : Type 0 where
+  pub writes : Writes room s.out.now s.at text t.out.now t.at
+  pub size : length t.out.now ≡ length s.out.now
+  pub same : t.out.ghost_name ≡ s.out.ghost_name

@@ -1,7 +1,7 @@
 // Answers and the lines of reports written as bytes, straight into the caller's slice.
 #![tactic(auto)]
 
-mod put;
+pub mod put;
 pub mod report;
 pub mod room;
 pub mod write;

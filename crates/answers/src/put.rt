@@ -1,84 +1,87 @@
-// Texts put into an output, part by part. Each function puts its text at a place and answers the place behind it; its caller has
-// made sure of the room.
-ghost use Rattle.std.specs.Prelude.{◌+◌, ◌≤◌, ◌<◌, ◌≡◌, [], ◌∷◌, ◌++◌, length};
+// Texts added to an output, one behind the other.
+ghost use Rattle.std.specs.Prelude.{◌+◌, ◌≤◌, ◌≡◌, ◌++◌, length};
 ghost use Rattle.forms.specs.Bytes.{decimal};
+ghost use Rattle.forms.specs.Text.{number_text, list_text};
+ghost use Rattle.forms.specs.Request.{credentials_from};
 ghost use Rattle.forms.specs.Answer.{line_text};
-ghost use Rattle.answers.specs.Put.{Put};
+ghost use Rattle.answers.specs.Put.{Adds};
 
-// One byte.
-fn put_byte(out: &mut [u8], at: usize, byte: u8) -> usize
-    requires { at < length out.old }
-    ensures { Put out.old at (byte ∷ []) out.new result }
-{
-    let next = at + 1;
-    out[at] = byte;
-    next
+// A lent output, and the place of its next text. What adds a text has made sure of the room.
+#[derive(Drop)]
+pub struct Output<'a> {
+    pub out: &'a mut [u8],
+    pub at: usize,
 }
 
-// A word's bytes.
-pub fn put_word(out: &mut [u8], at: usize, word: &[u8]) -> usize
-    requires { at + length word.now ≤ length out.old }
-    ensures { Put out.old at word.now out.new result }
-{
-    let mut next = at;
-    let mut i = 0;
-    while i < word.len() {
-        let byte = word[i];
-        next = put_byte(out, next, byte);
-        i += 1;
+impl<'a> Output<'a> {
+    // A word's bytes.
+    pub(crate) fn word(&mut self, word: &[u8])
+        requires { self.old.at + length word.now ≤ length self.old.out.now }
+        ensures { Adds self.old word.now self.new }
+    {
+        let next = self.at + word.len();
+        self.out[self.at..next].copy_from_slice(word);
+        self.at = next;
     }
-    next
-}
 
-// The byte of a digit.
-fn digit(d: u64) -> u8
-    requires { d < 10 }
-    ensures { result ≡ 48 + d }
-{
-    (48 + d) as u8
-}
-
-// `n` in decimal: what stands before its last digit, then that digit.
-fn put_number(out: &mut [u8], at: usize, n: u64) -> usize
-    requires { at + length (decimal n) ≤ length out.old }
-    ensures { Put out.old at (decimal n) out.new result }
-{
-    if n < 10 {
-        let last = digit(n);
-        put_byte(out, at, last)
-    } else {
-        let next = put_number(out, at, n / 10);
-        let last = digit(n % 10);
-        put_byte(out, next, last)
+    // `n` in decimal: what stands before its last digit, then that digit.
+    pub(crate) fn number(&mut self, n: u64)
+        requires { self.old.at + length (decimal n) ≤ length self.old.out.now }
+        ensures { Adds self.old (decimal n) self.new }
+    {
+        if n < 10 {
+            self.word(&[b'0' + n as u8]);
+        } else {
+            self.number(n / 10);
+            self.word(&[b'0' + (n % 10) as u8]);
+        }
     }
-}
 
-// A word, then a number right behind it.
-pub fn put_numbered(out: &mut [u8], at: usize, word: &[u8], n: u64) -> usize
-    requires { at + length (word.now ++ decimal n) ≤ length out.old }
-    ensures { Put out.old at (word.now ++ decimal n) out.new result }
-{
-    let next = put_word(out, at, word);
-    put_number(out, next, n)
-}
+    // A number behind a space.
+    #[tactic(auto, using(crate::proofs::Sets::adds_append))]
+    fn spaced(&mut self, n: u64)
+        requires { self.old.at + length (number_text n) ≤ length self.old.out.now }
+        ensures { Adds self.old (number_text n) self.new }
+    {
+        self.word(b" ");
+        self.number(n);
+    }
 
-// A word, one number and a newline.
-pub fn put_one(out: &mut [u8], at: usize, word: &[u8], n: u64) -> usize
-    requires { at + length (line_text word.now (n ∷ [])) ≤ length out.old }
-    ensures { Put out.old at (line_text word.now (n ∷ [])) out.new result }
-{
-    let p = put_word(out, at, word);
-    let q = put_numbered(out, p, b" ", n);
-    put_word(out, q, b")\n")
-}
+    // The numbers, each behind a space, and a closing bracket.
+    fn numbers(&mut self, ns: &[u64])
+        requires { self.old.at + length (list_text ns.now) ≤ length self.old.out.now }
+        ensures { Adds self.old (list_text ns.now) self.new }
+    {
+        for n in ns {
+            self.spaced(*n);
+        }
+        self.word(b")");
+    }
 
-// A word, three numbers and a newline.
-pub fn put_three(out: &mut [u8], at: usize, word: &[u8], a: u64, b: u64, c: u64) -> usize
-    requires { at + length (line_text word.now (a ∷ b ∷ c ∷ [])) ≤ length out.old }
-    ensures { Put out.old at (line_text word.now (a ∷ b ∷ c ∷ [])) out.new result }
-{
-    let p = put_word(out, at, word);
-    let q = put_numbered(out, p, b" ", a);
-    let r = put_numbered(out, q, b" ", b);
-    put_one(out, r, b"", c)
+    // A word, its numbers and a newline.
+    #[tactic(auto, using(crate::proofs::Sets::adds_append))]
+    pub(crate) fn line(&mut self, word: &[u8], ns: &[u64])
+        requires { self.old.at + length (line_text word.now ns.now) ≤ length self.old.out.now }
+        ensures { Adds self.old (line_text word.now ns.now) self.new }
+    {
+        self.word(word);
+        self.numbers(ns);
+        self.word(b"\n");
+    }
+
+    // A word, then the credentials that are held, rising, each behind a space; then a closing bracket. These take at most 183 bytes
+    // behind the word.
+    pub(crate) fn credentials(&mut self, word: &[u8], held: &[bool; 64])
+        requires { self.old.at + length word.now + 183 ≤ length self.old.out.now }
+        ensures added { Adds self.old (word.now ++ list_text (credentials_from 0 held.now)) self.new }
+        ensures few { self.new.at ≤ self.old.at + length word.now + 183 }
+    {
+        self.word(word);
+        for (n, is_held) in held.iter().enumerate() {
+            if *is_held {
+                self.spaced(n as u64);
+            }
+        }
+        self.word(b")");
+    }
 }

@@ -1,149 +1,119 @@
-// The lines of reports, written straight into the caller's slice. Each `write_` answers the place behind its line; where fewer bytes
-// are left than its longest line may have, it writes nothing and answers `at`.
-ghost use Rattle.std.specs.Prelude.{◌+◌, ◌≤◌, ◌++◌, length};
+// The lines of reports.
+ghost use Rattle.std.specs.Prelude.{◌≡◌, ◌+◌, ◌≤◌, length};
 ghost use Rattle.forms.specs.Text as form;
-ghost use Rattle.forms.specs.Text.{list_text, kind_text, form_line};
-ghost use Rattle.forms.specs.Request.{credentials_from, node_of};
+ghost use Rattle.forms.specs.Text.{kind_text, form_line};
+ghost use Rattle.forms.specs.Request.{node_of};
 ghost use Rattle.forms.specs.Answer.{direction_text, association_line, end_line};
-ghost use Rattle.answers.specs.Write.{Writes};
-ghost use Rattle.answers.specs.Put.{Put, credential_text};
+ghost use Rattle.answers.specs.Put.{Adds};
 
-use crate::put::{put_numbered, put_three, put_word};
-use crate::room::{LONGEST, LONGEST_NODE, has_room};
+use crate::put::Output;
+use crate::write::Line;
 use calculus::answer::ShownAssociation;
-use calculus::network::Kind;
+use calculus::network::{Kind, Node};
 
 // ---- show
 
 // An association's direction.
-fn put_direction(out: &mut [u8], at: usize, outward: bool) -> usize
-    requires { at + length (direction_text outward) ≤ length out.old }
-    ensures { Put out.old at (direction_text outward) out.new result }
+fn direction_word(outward: bool) -> &'static [u8]
+    ensures { result.now ≡ direction_text outward }
 {
-    if outward {
-        put_word(out, at, b" out")
-    } else {
-        put_word(out, at, b" in")
+    if outward { b" out" } else { b" in" }
+}
+
+// An association's line.
+impl Line for ShownAssociation {
+    ghost text = { association_line };
+
+    ghost LONGEST = { 32 };
+
+    const LONGEST: usize = 32;
+
+    #[tactic(auto, using(crate::proofs::Widths::width_byte, crate::proofs::Widths::width_three))]
+    fn put(&self, out: &mut Output<'_>) {
+        out.word(b"(assoc ");
+        out.number(self.node as u64);
+        out.word(direction_word(self.out));
+        out.line(
+            b"",
+            &[self.peer as u64, self.spi.0 as u64, self.users as u64],
+        );
     }
 }
 
-// An association's line. The caller has made sure of the room.
-fn put_association(out: &mut [u8], at: usize, x: ShownAssociation) -> usize
-    requires { at + length (association_line x) ≤ length out.old }
-    ensures { Put out.old at (association_line x) out.new result }
-{
-    let p = put_numbered(out, at, b"(assoc ", x.node as u64);
-    let q = put_direction(out, p, x.out);
-    put_three(out, q, b"", x.peer as u64, x.spi.0 as u64, x.users as u64)
-}
+// The last line of show's report.
+#[derive(Clone, Copy)]
+pub struct End;
 
-// Writes an association's line.
-pub fn write_association(out: &mut [u8], at: usize, x: ShownAssociation) -> usize
-    ensures { Writes 32 out.old at (association_line x) out.new result }
-{
-    if has_room(out.len(), at, LONGEST) {
-        return put_association(out, at, x);
-    }
-    at
-}
+impl Line for End {
+    ghost text = { λ _. end_line };
 
-// Writes the last line of show's report.
-pub fn write_end(out: &mut [u8], at: usize) -> usize
-    ensures { Writes 32 out.old at end_line out.new result }
-{
-    if has_room(out.len(), at, LONGEST) {
-        return put_word(out, at, b"(end)\n");
+    ghost LONGEST = { 32 };
+
+    const LONGEST: usize = 32;
+
+    fn put(&self, out: &mut Output<'_>) {
+        out.word(b"(end)\n");
     }
-    at
 }
 
 // ---- the network
 
-// A credential behind a space, if it is held.
-fn put_credential(out: &mut [u8], at: usize, n: u64, held: bool) -> usize
-    requires { at + length (credential_text n held) ≤ length out.old }
-    ensures { Put out.old at (credential_text n held) out.new result }
-{
-    if held {
-        return put_numbered(out, at, b" ", n);
-    }
-    at
-}
-
-// A word, then the credentials that are held, rising, each behind a space; then a closing bracket.
-fn put_credentials(out: &mut [u8], at: usize, word: &[u8], held: [bool; 64]) -> usize
-    requires { at + length (word.now ++ list_text (credentials_from 0 held)) ≤ length out.old }
-    ensures { Put out.old at (word.now ++ list_text (credentials_from 0 held)) out.new result }
-{
-    let mut next = put_word(out, at, word);
-    let mut i: usize = 0;
-    while i < 64 {
-        next = put_credential(out, next, i as u64, held[i]);
-        i += 1;
-    }
-    put_word(out, next, b")")
-}
-
 // A node's kind.
-fn put_kind(out: &mut [u8], at: usize, kind: Kind) -> usize
-    requires { at + length (kind_text kind) ≤ length out.old }
-    ensures { Put out.old at (kind_text kind) out.new result }
+fn kind_word(kind: Kind) -> &'static [u8]
+    ensures word { result.now ≡ kind_text kind }
+    ensures long { length result.now ≡ 5 }
 {
     match kind {
-        Kind::Host => put_word(out, at, b" host"),
-        Kind::Gateway => put_word(out, at, b" gate"),
+        Kind::Host => b" host",
+        Kind::Gateway => b" gate",
     }
 }
 
-// A node's line. The caller has made sure of the room.
-fn put_node(
-    out: &mut [u8],
-    at: usize,
-    node: u8,
-    kind: Kind,
-    has: [bool; 64],
-    needs: [bool; 64],
-) -> usize
-    requires { at + length (form_line (node_of node kind has needs)) ≤ length out.old }
-    ensures { Put out.old at (form_line (node_of node kind has needs)) out.new result }
-{
-    let p = put_numbered(out, at, b"(node ", node as u64);
-    let q = put_kind(out, p, kind);
-    let r = put_credentials(out, q, b" (has", has);
-    let s = put_credentials(out, r, b" (needs", needs);
-    put_word(out, s, b")\n")
+// The line that gives a node.
+#[derive(Clone, Copy)]
+pub struct GivenNode {
+    pub number: u8,
+    pub node: Node,
 }
 
-// Writes the line that gives a node.
-pub fn write_node(
-    out: &mut [u8],
-    at: usize,
-    node: u8,
-    kind: Kind,
-    has: [bool; 64],
-    needs: [bool; 64],
-) -> usize
-    ensures { Writes 400 out.old at (form_line (node_of node kind has needs)) out.new result }
-{
-    if has_room(out.len(), at, LONGEST_NODE) {
-        return put_node(out, at, node, kind, has, needs);
+impl Line for GivenNode {
+    ghost text = { λ x. form_line (node_of x.number x.node.kind x.node.has x.node.needs) };
+
+    ghost LONGEST = { 400 };
+
+    const LONGEST: usize = 400;
+
+    #[tactic(auto, using(crate::proofs::Widths::width_byte))]
+    fn put(&self, out: &mut Output<'_>) {
+        out.word(b"(node ");
+        out.number(self.number as u64);
+        out.word(kind_word(self.node.kind));
+        out.credentials(b" (has", &self.node.has);
+        out.credentials(b" (needs", &self.node.needs);
+        out.word(b")\n");
     }
-    at
 }
 
-// Writes the line that gives a route.
-pub fn write_route(out: &mut [u8], at: usize, from: u8, destination: u8, hop: u8) -> usize
-    ensures { Writes 32 out.old at (form_line (form.route from destination hop)) out.new result }
-{
-    if has_room(out.len(), at, LONGEST) {
-        return put_three(
-            out,
-            at,
+// The line that gives a route.
+#[derive(Clone, Copy)]
+pub struct GivenRoute {
+    pub at: u8,
+    pub destination: u8,
+    pub next: u8,
+}
+
+impl Line for GivenRoute {
+    ghost text = { λ x. form_line (form.route x.at x.destination x.next) };
+
+    ghost LONGEST = { 32 };
+
+    const LONGEST: usize = 32;
+
+    #[tactic(auto, using(crate::proofs::Widths::width_three), unfolding(forms::specs::Text::text, forms::specs::Text::list_text))]
+    fn put(&self, out: &mut Output<'_>) {
+        out.line(
             b"(route",
-            from as u64,
-            destination as u64,
-            hop as u64,
+            &[self.at as u64, self.destination as u64, self.next as u64],
         );
     }
-    at
 }

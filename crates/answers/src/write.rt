@@ -1,52 +1,74 @@
-// An answer's line, written straight into the caller's slice.
-ghost use Rattle.std.specs.Prelude.{◌+◌, ◌≤◌, length};
-ghost use Rattle.forms.specs.Answer.{made_by_default_line, answer_text};
+// Lines written straight into the caller's slice, where there is room for them; and those of answers.
+ghost use Rattle.std.specs.Prelude.{ℕ, List, ◌+◌, ◌≤◌, length};
+ghost use Rattle.forms.specs.Answer.{answer_text};
 ghost use Rattle.answers.specs.Write.{Writes};
-ghost use Rattle.answers.specs.Put.{Put};
+ghost use Rattle.answers.specs.Put.{Adds, Written};
 
-use crate::put::{put_numbered, put_one, put_word};
-use crate::room::{LONGEST, has_room};
+use crate::put::Output;
+use crate::room::has_room;
 use calculus::answer::Answer;
 
-// The line of an item that a default route moved. The caller has made sure of the room.
-fn put_made_by_default(out: &mut [u8], at: usize, n: u64) -> usize
-    requires { at + length (made_by_default_line n) ≤ length out.old }
-    ensures { Put out.old at (made_by_default_line n) out.new result }
-{
-    let next = put_numbered(out, at, b"(made ", n);
-    put_word(out, next, b" default)\n")
+// A line, newline and all.
+pub trait Line {
+    ghost text: { Self → List ℕ };
+
+    ghost LONGEST: { ℕ };
+
+    // No line of this kind has more bytes.
+    const LONGEST: usize;
+
+    // Adds the line where there is room for the longest.
+    fn put(&self, out: &mut Output<'_>)
+        requires { out.old.at + LONGEST ≤ length out.old.out.now }
+        ensures added { Adds out.old (text self.now) out.new }
+        ensures few { out.new.at ≤ out.old.at + LONGEST };
 }
 
-// The caller has made sure of the room: no answer's line has more than 32 bytes.
-#[tactic(auto, unfolding(forms::specs::Answer::answer_text))]
-fn put_answer(out: &mut [u8], at: usize, answer: Answer) -> usize
-    requires { at + 32 ≤ length out.old }
-    ensures { Put out.old at (answer_text answer) out.new result }
-{
-    match answer {
-        Answer::Ok => put_word(out, at, b"(ok)\n"),
-        Answer::Made(item) => put_one(out, at, b"(made", item.0 as u64),
-        Answer::MadeByDefault(item) => put_made_by_default(out, at, item.0 as u64),
-        Answer::MadeTwo(item, next) => {
-            let behind = put_numbered(out, at, b"(made ", item.0 as u64);
-            put_one(out, behind, b"", next.0 as u64)
+impl<'a> Output<'a> {
+    // Adds a line, or nothing where there is no room for the longest.
+    pub fn write<L: Line>(&mut self, line: &L)
+        ensures { Written L.LONGEST self.old (L.text line.now) self.new }
+    {
+        if has_room(self.out.len(), self.at, L::LONGEST) {
+            line.put(self);
         }
-        Answer::Lost(loss) => put_one(out, at, b"(lost", loss.number() as u64),
-        Answer::Denied => put_word(out, at, b"(denied)\n"),
-        Answer::Opened => put_word(out, at, b"(opened)\n"),
-        Answer::Delivered(tag) => put_one(out, at, b"(delivered", tag as u64),
-        Answer::Closed => put_word(out, at, b"(closed)\n"),
-        Answer::No(refusal) => put_one(out, at, b"(no", refusal.number() as u64),
     }
 }
 
-// Writes `answer`'s line at `at` and answers the place behind it; where fewer than 32 bytes are left there, writes nothing and
+// Writes a line at `at` and answers the place behind it; where fewer bytes are left than the longest has, writes nothing and
 // answers `at`.
-pub fn write(out: &mut [u8], at: usize, answer: Answer) -> usize
-    ensures { Writes 32 out.old at (answer_text answer) out.new result }
+pub fn write<L: Line>(out: &mut [u8], at: usize, line: &L) -> usize
+    ensures { Writes L.LONGEST out.old at (L.text line.now) out.new result }
 {
-    if has_room(out.len(), at, LONGEST) {
-        return put_answer(out, at, answer);
+    let mut output = Output { out, at };
+    output.write(line);
+    output.at
+}
+
+impl Line for Answer {
+    ghost text = { answer_text };
+
+    ghost LONGEST = { 32 };
+
+    const LONGEST: usize = 32;
+
+    #[tactic(auto, using(crate::proofs::Widths::width_number, crate::proofs::Widths::width_one, crate::proofs::Widths::width_two), unfolding(forms::specs::Answer::answer_text))]
+    fn put(&self, out: &mut Output<'_>) {
+        match *self {
+            Answer::Ok => out.word(b"(ok)\n"),
+            Answer::Made(item) => out.line(b"(made", &[item.0 as u64]),
+            Answer::MadeByDefault(item) => {
+                out.word(b"(made ");
+                out.number(item.0 as u64);
+                out.word(b" default)\n");
+            }
+            Answer::MadeTwo(item, next) => out.line(b"(made", &[item.0 as u64, next.0 as u64]),
+            Answer::Lost(loss) => out.line(b"(lost", &[loss.number() as u64]),
+            Answer::Denied => out.word(b"(denied)\n"),
+            Answer::Opened => out.word(b"(opened)\n"),
+            Answer::Delivered(tag) => out.line(b"(delivered", &[tag as u64]),
+            Answer::Closed => out.word(b"(closed)\n"),
+            Answer::No(refusal) => out.line(b"(no", &[refusal.number() as u64]),
+        }
     }
-    at
 }
