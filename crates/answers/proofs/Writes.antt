@@ -7,7 +7,8 @@ use native.Mathlib.Omega.{arith}
 use borrow.Author.Tests.{le-leb}
 use lib.ListN.{length}
 use Rattle.answers.specs.Write.{has_room, Writes}
-use Rattle.answers.specs.Put.{Put}
+use Rattle.answers.specs.declared.put.Output.{Output}
+use Rattle.answers.specs.Put.{Put, Adds, Written}
 
 pub writes_none : {room : ℕ} {l text : List ℕ} {at : ℕ} → has_room room (length l) at ≡ false → Writes room l at text l at
 writes_none e = record { place = rw e; left = rw e; few = omega arith }
@@ -24,3 +25,7 @@ module _ {room : ℕ} {l text m : List ℕ} {at p : ℕ} (h : at + room ≤ leng
       let e = le-leb (at + room) (length l) h in
       let place : p ≡ at + length text = rw e at x.place in
       (record { place = place; bytes = rw e at x.left }, omega (arith, x.few))
+
+-- the same of an output that holds its place
+pub written_adds : {room : ℕ} {s t : Output} {text : List ℕ} → s.at + room ≤ length s.out.now → Written room s text t → Adds s text t
+written_adds h x = record { put = (put_writes h x.writes).0; size = x.size; same = x.same }

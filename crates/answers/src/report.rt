@@ -7,7 +7,7 @@ ghost use Rattle.forms.specs.Answer.{direction_text, association_line, end_line}
 ghost use Rattle.answers.specs.Put.{Adds};
 
 use crate::put::Output;
-use crate::write::Line;
+use crate::write::OutputLine;
 use calculus::answer::ShownAssociation;
 use calculus::network::{Kind, Node};
 
@@ -21,7 +21,7 @@ fn direction_word(outward: bool) -> &'static [u8]
 }
 
 // An association's line.
-impl Line for ShownAssociation {
+impl OutputLine for ShownAssociation {
     ghost text = { association_line };
 
     ghost LONGEST = { 32 };
@@ -44,7 +44,7 @@ impl Line for ShownAssociation {
 #[derive(Clone, Copy)]
 pub struct End;
 
-impl Line for End {
+impl OutputLine for End {
     ghost text = { λ _. end_line };
 
     ghost LONGEST = { 32 };
@@ -76,7 +76,7 @@ pub struct GivenNode {
     pub node: Node,
 }
 
-impl Line for GivenNode {
+impl OutputLine for GivenNode {
     ghost text = { λ x. form_line (node_of x.number x.node.kind x.node.has x.node.needs) };
 
     ghost LONGEST = { 400 };
@@ -102,7 +102,7 @@ pub struct GivenRoute {
     pub next: u8,
 }
 
-impl Line for GivenRoute {
+impl OutputLine for GivenRoute {
     ghost text = { λ x. form_line (form.route x.at x.destination x.next) };
 
     ghost LONGEST = { 32 };

@@ -9,7 +9,7 @@ use crate::room::has_room;
 use calculus::answer::Answer;
 
 // A line, newline and all.
-pub trait Line {
+pub trait OutputLine {
     ghost text: { Self → List ℕ };
 
     ghost LONGEST: { ℕ };
@@ -26,7 +26,7 @@ pub trait Line {
 
 impl<'a> Output<'a> {
     // Adds a line, or nothing where there is no room for the longest.
-    pub fn write<L: Line>(&mut self, line: &L)
+    pub fn write<L: OutputLine>(&mut self, line: &L)
         ensures { Written L.LONGEST self.old (L.text line.now) self.new }
     {
         if has_room(self.out.len(), self.at, L::LONGEST) {
@@ -37,7 +37,7 @@ impl<'a> Output<'a> {
 
 // Writes a line at `at` and answers the place behind it; where fewer bytes are left than the longest has, writes nothing and
 // answers `at`.
-pub fn write<L: Line>(out: &mut [u8], at: usize, line: &L) -> usize
+pub fn write<L: OutputLine>(out: &mut [u8], at: usize, line: &L) -> usize
     ensures { Writes L.LONGEST out.old at (L.text line.now) out.new result }
 {
     let mut output = Output { out, at };
@@ -45,7 +45,7 @@ pub fn write<L: Line>(out: &mut [u8], at: usize, line: &L) -> usize
     output.at
 }
 
-impl Line for Answer {
+impl OutputLine for Answer {
     ghost text = { answer_text };
 
     ghost LONGEST = { 32 };

@@ -3,10 +3,10 @@
 
 ghost use Rattle.std.specs.Prelude.{◌≤◌, length, IfOk};
 
-use answers::report::{write_association, write_end, write_node, write_route};
-use answers::write::write;
+use answers::report::{End, GivenNode, GivenRoute};
+use answers::write::{OutputLine, write};
 use calculus::answer::{Answer, Loss, Refusal, ShownAssociation};
-use calculus::network::Kind;
+use calculus::network::{Kind, Node};
 use calculus::number::{ItemNumber, Spi};
 use calculus::request::{Request, Sender};
 use forms::line::next_line;
@@ -21,12 +21,16 @@ fn put_number(rt: &HostRuntime, n: u64) -> io::Result<()> {
     print!(rt; " {n}")
 }
 
-// An answer at place 4 of forty dots, and all forty.
-fn put_answer(rt: &HostRuntime, answer: Answer) -> io::Result<()> {
+// A line at place 4 of forty dots, and all forty.
+fn put_dotted<L: OutputLine>(rt: &HostRuntime, line: &L) -> io::Result<()> {
     let mut out = [b'.'; 40];
-    write(&mut out, 4, answer);
+    write(&mut out, 4, line);
     put(rt, &out)?;
     put(rt, b"\n")
+}
+
+fn put_answer(rt: &HostRuntime, answer: Answer) -> io::Result<()> {
+    put_dotted(rt, &answer)
 }
 
 fn put_credentials(rt: &HostRuntime, name: &[u8], set: [bool; 64]) -> io::Result<()> {
@@ -189,20 +193,6 @@ fn association() -> ShownAssociation {
     }
 }
 
-fn put_association(rt: &HostRuntime, x: ShownAssociation) -> io::Result<()> {
-    let mut out = [b'.'; 40];
-    write_association(&mut out, 4, x);
-    put(rt, &out)?;
-    put(rt, b"\n")
-}
-
-fn put_end(rt: &HostRuntime) -> io::Result<()> {
-    let mut out = [b'.'; 40];
-    write_end(&mut out, 4);
-    put(rt, &out)?;
-    put(rt, b"\n")
-}
-
 // The place behind a line, then the bytes that it stands in.
 fn put_written(rt: &HostRuntime, next: usize, out: &[u8]) -> io::Result<()> {
     put_number(rt, next as u64)?;
@@ -211,38 +201,59 @@ fn put_written(rt: &HostRuntime, next: usize, out: &[u8]) -> io::Result<()> {
     put(rt, b"\n")
 }
 
+fn route(at: u8, destination: u8, next: u8) -> GivenRoute {
+    GivenRoute {
+        at,
+        destination,
+        next,
+    }
+}
+
 fn put_route(rt: &HostRuntime) -> io::Result<()> {
     let mut out = [b'.'; 40];
-    let next = write_route(&mut out, 4, 32, 1, 31);
+    let next = write(&mut out, 4, &route(32, 1, 31));
     put_written(rt, next, &out)
 }
 
-// A gateway that has three credentials and needs all, at place 4.
-fn put_gateway(rt: &HostRuntime, out: &mut [u8]) -> io::Result<()> {
+// A gateway that has three credentials and needs all.
+fn gateway() -> GivenNode {
     let mut has = [false; 64];
     has[0] = true;
     has[9] = true;
     has[63] = true;
-    let next = write_node(out, 4, 32, Kind::Gateway, has, [true; 64]);
+    GivenNode {
+        number: 32,
+        node: Node {
+            given: true,
+            kind: Kind::Gateway,
+            has,
+            needs: [true; 64],
+        },
+    }
+}
+
+// Its line at place 4.
+fn put_gateway(rt: &HostRuntime, out: &mut [u8]) -> io::Result<()> {
+    let next = write(out, 4, &gateway());
     put_written(rt, next, out)
 }
 
 // Where one byte too few is left nothing is written, and the place stays.
 fn put_nothing(rt: &HostRuntime) -> io::Result<()> {
     let mut out = [b'.'; 35];
-    put_number(rt, write(&mut out, 4, Answer::Ok) as u64)?;
-    put_number(rt, write_association(&mut out, 4, association()) as u64)?;
-    put_number(rt, write_end(&mut out, 4) as u64)?;
-    let next = write_route(&mut out, 4, 1, 4, 2);
+    put_number(rt, write(&mut out, 4, &Answer::Ok) as u64)?;
+    put_number(rt, write(&mut out, 4, &association()) as u64)?;
+    put_number(rt, write(&mut out, 4, &End) as u64)?;
+    let next = write(&mut out, 4, &route(1, 4, 2));
     put_written(rt, next, &out)?;
     put_gateway(rt, &mut [b'.'; 403])
 }
 
 fn put_reports(rt: &HostRuntime) -> io::Result<()> {
-    put_association(rt, association())?;
-    put_association(
+    put_dotted(rt, &association())?;
+    put_dotted(
         rt,
-        ShownAssociation {
+        &ShownAssociation {
             node: 32,
             out: true,
             peer: 31,
@@ -250,7 +261,7 @@ fn put_reports(rt: &HostRuntime) -> io::Result<()> {
             users: 65535,
         },
     )?;
-    put_end(rt)?;
+    put_dotted(rt, &End)?;
     put_route(rt)?;
     put_gateway(rt, &mut [b'.'; 404])?;
     put_nothing(rt)

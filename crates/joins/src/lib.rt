@@ -62,7 +62,7 @@ fn refuse(out: &mut [u8], refusal: Refusal) -> JoinReply
     requires { 65536 ≤ length out.old }
     ensures { JoinReplies out.old (spec.refused_join refusal) out.new result }
 {
-    let written = write(out, 0, Answer::No(refusal));
+    let written = write(out, 0, &Answer::No(refusal));
     JoinReply {
         written,
         status: Status::Refused(refusal),

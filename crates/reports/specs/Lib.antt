@@ -1,2 +1,2 @@
--- What the contracts of private functions of `reports` cite; that of the public one is `Writes` of `answers`.
+-- What proofs cite of the lines that `reports` writes; its contract is `Writes` of `answers`.
 pub mod Puts

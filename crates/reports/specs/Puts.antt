@@ -1,4 +1,4 @@
--- A text put into an output that has room for it. Cited by the private functions of `reports`. Assumes nothing.
+-- A text put into an output that has room for it. Proofs of `simulator` cite it. Assumes nothing.
 use Rattle.std.specs.Prelude.{List, ℕ, ◌≤◌, length}
 use Rattle.answers.specs.Put.{Put}
 

@@ -3,17 +3,18 @@
 
 mod network;
 mod show;
+mod table;
 
 ghost use Rattle.std.specs.Prelude.{◌≡◌, ◌+◌, ◌≤◌, length};
 ghost use Rattle.model.specs.Calls.{lines_text};
 ghost use Rattle.model.specs.Turn as turns;
 ghost use Rattle.answers.specs.Write.{Writes};
-ghost use Rattle.reports.specs.Puts.{Puts};
+ghost use Rattle.answers.specs.Put.{Adds};
 
 use crate::network::put_network;
 use crate::show::put_shown;
+use answers::put::Output;
 use answers::room::has_room;
-use answers::write::write;
 use calculus::answer::{Answer, Refusal};
 use calculus::network::Network;
 use calculus::request::{Report, Request};
@@ -43,21 +44,15 @@ fn report_of(asked: Result<Request, Refusal>) -> Report
 }
 
 // The lines of a report, or that of `answer`. The caller has made sure of the room.
-fn put_lines(
-    out: &mut [u8],
-    at: usize,
-    n: &Network,
-    users: &[u16; 2048],
-    answer: Answer,
-    report: Report,
-) -> usize
-    requires { at + 65536 ≤ length out.old }
-    ensures { Puts 65536 out.old at (lines_text (turns.lines_as n.now users.now answer report)) out.new result }
+fn put_lines(out: &mut Output<'_>, n: &Network, users: &[u16; 2048], answer: Answer, report: Report)
+    requires { out.old.at + 65536 ≤ length out.old.out.now }
+    ensures added { Adds out.old (lines_text (turns.lines_as n.now users.now answer report)) out.new }
+    ensures few { out.new.at ≤ out.old.at + 65536 }
 {
     match report {
-        Report::NoReport => write(out, at, answer),
-        Report::AllAssociations => put_shown(out, at, users),
-        Report::WholeNetwork => put_network(out, at, n),
+        Report::NoReport => out.write(&answer),
+        Report::AllAssociations => put_shown(out, users),
+        Report::WholeNetwork => put_network(out, n),
     }
 }
 
@@ -73,9 +68,9 @@ pub fn write_lines(
 ) -> usize
     ensures { Writes 65536 out.old at (lines_text (turns.lines_as n.now users.now answer (turns.report_of asked))) out.new result }
 {
-    if has_room(out.len(), at, ROOM) {
-        let report = report_of(asked);
-        return put_lines(out, at, n, users, answer, report);
+    let mut output = Output { out, at };
+    if has_room(output.out.len(), at, ROOM) {
+        put_lines(&mut output, n, users, answer, report_of(asked));
     }
-    at
+    output.at
 }

@@ -1,13 +1,14 @@
-// Show's report. The caller has made sure of the room: an association's line has at most 29 bytes, so 2,048 of them have 59,392, and
-// a line is written where 32 bytes are left.
+// Show's report. The caller has made sure of the room: an association's line has at most 29 bytes, so 2,048 of them have 59,392.
 ghost use Rattle.std.specs.Prelude.{◌≡◌, map, ◌+◌, ◌≤◌, ◌<◌, length};
 ghost use Rattle.forms.specs.Bytes.{joined};
 ghost use Rattle.forms.specs.Answer.{association_line};
 ghost use Rattle.model.specs.Row as row;
 ghost use Rattle.model.specs.Requests as spec;
-ghost use Rattle.reports.specs.Puts.{Puts};
+ghost use Rattle.answers.specs.Put.{Adds};
 
-use answers::report::{write_association, write_end};
+use crate::table::{Entry, put_table};
+use answers::put::Output;
+use answers::report::End;
 use calculus::answer::ShownAssociation;
 use calculus::number::Spi;
 
@@ -21,47 +22,36 @@ fn spi_of(outward: bool, a: u8, q: u8) -> Spi
     Spi::between(a, q)
 }
 
-// The line of the association whose n users are at place p, if it stands.
-fn put_association(out: &mut [u8], at: usize, p: usize, n: u16) -> usize
-    requires { (p < 2048) × (at + 32 ≤ length out.old) }
-    ensures { Puts 29 out.old at (joined (map association_line (spec.association_at p n))) out.new result }
-{
-    if 0 < n {
-        let a = (p / 64 + 1) as u8;
-        let outward = 32 <= p % 64;
-        let q = (p % 32 + 1) as u8;
-        let spi = spi_of(outward, a, q);
-        let association = ShownAssociation {
-            node: a,
-            out: outward,
-            peer: q,
-            spi,
-            users: n,
-        };
-        return write_association(out, at, association);
+// The line of the association whose users these are, if it stands.
+impl Entry for u16 {
+    ghost text = { λ p n. joined (map association_line (spec.association_at p n)) };
+
+    ghost PLACES = { 2048 };
+
+    ghost LONGEST = { 29 };
+
+    fn put(&self, p: usize, out: &mut Output<'_>) {
+        if 0 < *self {
+            let a = (p / 64 + 1) as u8;
+            let outward = 32 <= p % 64;
+            let q = (p % 32 + 1) as u8;
+            out.write(&ShownAssociation {
+                node: a,
+                out: outward,
+                peer: q,
+                spi: spi_of(outward, a, q),
+                users: *self,
+            });
+        }
     }
-    at
 }
 
-// The lines of all that stand, by node, then in before out, then by peer: the table's order.
-fn put_associations(out: &mut [u8], at: usize, users: &[u16]) -> usize
-    requires { (at + 65536 ≤ length out.old) × (length users.now ≡ 2048) }
-    ensures { Puts 59392 out.old at (joined (map association_line (spec.shown users.now))) out.new result }
+// One line for each standing association, by node, then in before out, then by peer; then `(end)`.
+pub fn put_shown(out: &mut Output<'_>, users: &[u16; 2048])
+    requires { out.old.at + 65536 ≤ length out.old.out.now }
+    ensures added { Adds out.old (joined (spec.shown_lines users.now)) out.new }
+    ensures few { out.new.at ≤ out.old.at + 65536 }
 {
-    let mut next = at;
-    let mut i: usize = 0;
-    while i < 2048 {
-        next = put_association(out, next, i, users[i]);
-        i += 1;
-    }
-    next
-}
-
-// One line for each standing association, then `(end)`.
-pub fn put_shown(out: &mut [u8], at: usize, users: &[u16; 2048]) -> usize
-    requires { at + 65536 ≤ length out.old }
-    ensures { Puts 65536 out.old at (joined (spec.shown_lines users.now)) out.new result }
-{
-    let next = put_associations(out, at, users);
-    write_end(out, next)
+    put_table(out, users);
+    out.write(&End);
 }

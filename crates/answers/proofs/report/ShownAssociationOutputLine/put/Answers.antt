@@ -1,7 +1,7 @@
 -- Part by part.
 use Rattle.forms.specs.Answer.{association_line}
 use Rattle.answers.proofs.Sets.{adds_append, adds_none}
-use Rattle.answers.proofs.report.ShownAssociationLine.put.Goals as goal
+use Rattle.answers.proofs.report.ShownAssociationOutputLine.put.Goals as goal
 
 pub returns-clause-added : goal.returns-clause-added
 unfolding association_line

@@ -1,7 +1,7 @@
 -- Part by part.
 use Rattle.forms.specs.Answer.{answer_text}
 use Rattle.answers.proofs.Sets.{adds_append, adds_none}
-use Rattle.answers.proofs.write.AnswerLine.put.Goals as goal
+use Rattle.answers.proofs.write.AnswerOutputLine.put.Goals as goal
 
 pub returns-in-MadeByDefault-clause-added : goal.returns-in-MadeByDefault-clause-added
 unfolding answer_text

@@ -2,7 +2,7 @@
 use Rattle.std.proofs.Common.{append_assoc}
 use Rattle.forms.specs.Text.{text}
 use Rattle.answers.proofs.Sets.{adds_append}
-use Rattle.answers.proofs.report.GivenNodeLine.put.Goals as goal
+use Rattle.answers.proofs.report.GivenNodeOutputLine.put.Goals as goal
 
 pub returns-clause-added : goal.returns-clause-added
 unfolding text
