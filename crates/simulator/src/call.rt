@@ -60,7 +60,7 @@ pub fn call(s: State, line: &[u8], out: &mut [u8]) -> Reply
     let session = session_of(asked);
     let mut network = s.network;
     let mut users = s.users;
-    let part = load(s, session);
+    let part = load(&s, session);
     let moved = turn(s.opened, &network, &mut users, part, asked);
     let answer = moved.answer;
     let left = moved.part;
@@ -68,7 +68,8 @@ pub fn call(s: State, line: &[u8], out: &mut [u8]) -> Reply
     let status = status_of(answer);
     let opened = is_opened(moved.opens, s.opened);
     network_after(&mut network, asked, answer);
-    let mut state = store(s, session, left);
+    let mut state = s;
+    store(&mut state, session, &left);
     state.opened = opened;
     state.network = network;
     state.users = users;

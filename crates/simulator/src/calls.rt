@@ -45,7 +45,7 @@ fn next_call(text: &[u8], from: usize, room: usize) -> Option<Line>
 pub fn calls(s: State, text: &[u8], out: &mut [u8]) -> Answered
     ensures { Answers out.new result (answered_text s text.now out.old) }
 {
-    let mut parts = unpack(s);
+    let mut parts = unpack(&s);
     let mut opened = s.opened;
     let mut network = s.network;
     let mut users = s.users;
@@ -73,7 +73,7 @@ pub fn calls(s: State, text: &[u8], out: &mut [u8]) -> Answered
             }
         }
     }
-    let mut state = pack(s, parts);
+    let mut state = pack(s, &parts);
     state.opened = opened;
     state.network = network;
     state.users = users;

@@ -1,4 +1,3 @@
 -- Laws that belong to no one function.
 pub mod Copies
 pub mod Packs
-pub mod Sizes

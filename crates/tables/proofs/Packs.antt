@@ -10,8 +10,7 @@ use Rattle.calculus.specs.declared.state.Part.{Part}
 use Rattle.calculus.specs.declared.state.State.{State}
 use Rattle.model.specs.State.{load, store}
 use Rattle.model.specs.Turn.{Parts, Held}
-use Rattle.model.proofs.Parts.{Sized, Whole, store_sized, load_stored, load_others}
-use Rattle.tables.proofs.Sizes.{Eight}
+use Rattle.model.proofs.Parts.{Sized, Whole, load_stored, load_others}
 
 -- of eight parts, the first i are those of s
 pub record Unpacked (s : State) (parts : List Part) (i : ℕ) : Type 0 where
@@ -49,42 +48,33 @@ store_shared h u t = record { opened = h.opened; network = h.network; users = h.
 
 -- the first i of eight parts are put back into s: r has them
 pub record Packed (s : State) (parts : List Part) (r : State) (i : ℕ) : Type 0 where
-  pub sized : Sized r
-  pub eight : Eight parts
   pub own : Unpacked r parts i
   pub shared : Shared s r
 
-pub packed_none : {s : State} {parts : List Part} → Sized s → Eight parts → Packed s parts s 0
-packed_none h k =
+pub packed_none : {s : State} {parts : List Part} → length parts ≡ 8 → Packed s parts s 0
+packed_none k =
     record {
-      sized = h;
-      eight = k;
-      own = record { many = k.many; each = λ u q z. absurd (omega arith) };
+      own = record { many = k; each = λ u q z. absurd (omega arith) };
       shared = record { opened = refl; network = refl; users = refl };
     }
 
 module _ {s : State} {parts : List Part} {r : State} {i : ℕ} (w : Packed s parts r i) where
-  pub packed_more : i < 8 → (z : Part) → Packed s parts (store r (i + 1) (get_or parts i z)) (i + 1)
-  packed_more k z =
+  pub packed_more : i < 8 → Sized r → (z : Part) → Whole (get_or parts i z) → Packed s parts (store r (i + 1) (get_or parts i z)) (i + 1)
+  packed_more k sized z whole =
       record {
-        sized = store_sized r w.sized (get_or parts i z) h (i + 1) (omega arith);
-        eight = w.eight;
-        own = record { many = w.eight.many; each = λ u q t. go u t (dec_lt u i) (omega arith) };
+        own = record { many = w.own.many; each = λ u q t. go u t (dec_lt u i) (omega arith) };
         shared = store_shared w.shared (i + 1) (get_or parts i z);
       }
     where
-      h : Whole (get_or parts i z)
-      h = w.eight.whole i k z
-
       go : (u : ℕ) (t : Part) → Dec (u < i) → u ≤ i → get_or parts u t ≡ load (store r (i + 1) (get_or parts i z)) (u + 1)
       go u t (yes p) q =
           w.own.each u p t
-          ∙ sym (load_others r w.sized (get_or parts i z) h (u + 1) (i + 1) (omega arith) (omega arith) (λ e. omega arith))
+          ∙ sym (load_others r sized (get_or parts i z) whole (u + 1) (i + 1) (omega arith) (omega arith) (λ e. omega arith))
       go u t (no p) q =
           let f : u ≡ i = omega arith in
           rw f
-          (rw set-get_or at (get_or-set_same parts i (get_or parts i z) t (omega (arith, w.eight.many)))
-          ∙ sym (load_stored r w.sized (get_or parts i z) h (i + 1) (omega arith)))
+          (rw set-get_or at (get_or-set_same parts i (get_or parts i z) t (omega (arith, w.own.many)))
+          ∙ sym (load_stored r sized (get_or parts i z) whole (i + 1) (omega arith)))
 
   pub packed_all : 8 ≤ i → Held r s.opened s.network parts s.users
   packed_all h =

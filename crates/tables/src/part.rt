@@ -9,50 +9,43 @@ use calculus::state::{Part, State};
 use lookups::blank::blank_part;
 
 // Session `u`'s part; a blank part where `u` is no session's number.
-pub fn load(s: State, u: SessionNumber) -> Part
-    ensures { result ≡ loaded s u.0 }
+pub fn load(s: &State, u: SessionNumber) -> Part
+    ensures { result ≡ loaded s.now u.0 }
 {
-    let n = u.0;
-    if is_session(n as u64) {
-        return load_at(s, n as usize - 1);
+    if is_session(u.0 as u64) {
+        load_at(s, u.0 as usize - 1)
+    } else {
+        blank_part()
     }
-    blank_part()
 }
 
-// The state with `t` as session `u`'s part; as it was where `u` is no session's number.
-pub fn store(s: State, u: SessionNumber, t: Part) -> State
-    ensures { result ≡ stored s u.0 t }
+// Puts `t` in the place of session `u`'s part; changes nothing where `u` is no session's number.
+pub fn store(s: &mut State, u: SessionNumber, t: &Part)
+    ensures { s.new ≡ stored s.old u.0 t.now }
 {
-    let n = u.0;
-    if is_session(n as u64) {
-        return store_at(s, n as usize - 1, t);
+    if is_session(u.0 as u64) {
+        store_at(s, u.0 as usize - 1, t);
     }
-    s
 }
 
 // The parts of all sessions.
-pub fn unpack(s: State) -> [Part; 8]
-    ensures { Parts s result }
+pub fn unpack(s: &State) -> [Part; 8]
+    ensures { Parts s.now result }
 {
-    let first = load_at(s, 0);
-    let mut parts = [first; 8];
-    let mut i: usize = 1;
-    while i < 8 {
+    let mut parts = [load_at(s, 0); 8];
+    for i in 1..8 {
         parts[i] = load_at(s, i);
-        i += 1;
     }
     parts
 }
 
 // The state with these parts, and with the tables that all sessions share as in `s`.
-pub fn pack(s: State, parts: [Part; 8]) -> State
-    ensures { Held result s.opened s.network parts s.users }
+#[tactic(auto, using(crate::proofs::Packs::packed_more))]
+pub fn pack(mut s: State, parts: &[Part; 8]) -> State
+    ensures { Held result s.opened s.network parts.now s.users }
 {
-    let mut left = s;
-    let mut i: usize = 0;
-    while i < 8 {
-        left = store_at(left, i, parts[i]);
-        i += 1;
+    for (i, part) in parts.iter().enumerate() {
+        store_at(&mut s, i, part);
     }
-    left
+    s
 }

@@ -16,6 +16,6 @@ returns c =
     replied c.args.s c.args.line.now c.read-asked.result c.read-asked.ensures c.session_of-session.result.0
     (rw c.session_of-session.ensures) c.turn-moved.result c.turn-moved.new.users
     (rw (← part) c.turn-moved.ensures.0) (rw (← part) c.turn-moved.ensures.1)
-    (omega arith) c.write_lines-written.ensures c.store-state.result (rw numbered at c.store-state.ensures)
+    (omega arith) c.write_lines-written.ensures c.store.new.s (rw numbered at c.store.ensures)
     c.is_opened-opened.result c.is_opened-opened.ensures c.network_after.new.n c.network_after.ensures
     c.status_of-status.result c.status_of-status.ensures
