@@ -8,7 +8,7 @@ use crate::answer::Refusal;
 pub fn within(n: u64, low: u64, high: u64) -> bool
     ensures { result ≡ spec.within low high n }
 {
-    if low <= n { n <= high } else { false }
+    (low..=high).contains(&n)
 }
 
 // Whether `n` is a node's number.
@@ -57,11 +57,11 @@ pub fn is_tag(n: u64) -> bool
 pub fn pred(n: u8) -> u8
     ensures { result ≡ n - 1 }
 {
-    if n == 0 { 0 } else { n - 1 }
+    n.saturating_sub(1)
 }
 
 // A set-up session, 1 to 8.
-#[derive(Clone, Copy)]
+#[derive(Clone, Copy, PartialEq, Eq)]
 pub struct SessionNumber(pub u8);
 
 // A session's number, or refusal 2.
@@ -80,7 +80,7 @@ impl TryFrom<u64> for SessionNumber {
 }
 
 // An item of one session, 1 to 1,000,000; 0 is no item's.
-#[derive(Clone, Copy)]
+#[derive(Clone, Copy, PartialEq, Eq)]
 pub struct ItemNumber(pub u32);
 
 // An item's number, or refusal 2.
@@ -111,11 +111,10 @@ impl Spi {
     pub fn between(node: u8, peer: u8) -> Spi
         ensures { result ≡ spec.spi node peer }
     {
-        if is_node(node as u64) {
-            if is_node(peer as u64) {
-                return Spi(Spi::FIRST + Spi::STRIDE * (node as u16 - 1) + (peer as u16 - 1));
-            }
+        if is_node(node as u64) && is_node(peer as u64) {
+            Spi(Spi::FIRST + Spi::STRIDE * (node as u16 - 1) + (peer as u16 - 1))
+        } else {
+            Spi(0)
         }
-        Spi(0)
     }
 }

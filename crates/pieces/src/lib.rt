@@ -28,26 +28,15 @@ pub struct Progress {
     pub written: usize,
 }
 
-fn least(a: usize, b: usize) -> usize
-    ensures { result ≡ min a b }
-{
-    if a < b { a } else { b }
-}
-
 // Moves the bytes from `from` up to `to` to the front and answers how many they are. Of a line that is too long already no
 // more than shows it is kept.
 fn keep(input: &mut [u8], from: usize, to: usize) -> usize
     requires { (from ≤ to) × (to ≤ length input.old) }
     ensures { Keeps input.old from to input.new result }
 {
-    let n = least(to - from, TOO_LONG);
-    let mut i: usize = 0;
-    while i < n {
-        let byte = input[from + i];
-        input[i] = byte;
-        i += 1;
-    }
-    n
+    let kept = TOO_LONG.min(to - from);
+    input.copy_within(from..from + kept, 0);
+    kept
 }
 
 fn has_line(text: &[u8]) -> bool
@@ -62,27 +51,24 @@ fn answer(p: Progress, input: &mut [u8], from: usize, to: usize, out: &mut [u8])
     ensures { Advances (answered_into (stream_at p.state from to input.old) to input.old out.old) input.new out.new result }
 {
     let answered = calls(p.state, &input[from..to], out);
-    let state = answered.state;
-    let written = answered.written;
     let next = from + answered.read;
+    let left = Progress {
+        state: answered.state,
+        from: next,
+        to,
+        wants: false,
+        over: false,
+        written: answered.written,
+    };
     if has_line(&input[next..to]) {
-        return Progress {
-            state,
-            from: next,
-            to,
-            wants: false,
-            over: false,
-            written,
-        };
+        return left;
     }
     let kept = keep(input, next, to);
     Progress {
-        state,
         from: 0,
         to: kept,
         wants: true,
-        over: false,
-        written,
+        ..left
     }
 }
 
@@ -92,47 +78,37 @@ fn finish(p: Progress, input: &[u8], from: usize, to: usize, out: &mut [u8]) -> 
     requires { (from ≤ to) × (to ≤ length input.now) }
     ensures { Advances (ended (stream_at p.state from to input.now) input.now out.old) input.now out.new result }
 {
-    let size = to - from;
-    if size == 0 {
-        let state = p.state;
-        return Progress {
-            state,
-            from: 0,
-            to: 0,
-            wants: false,
-            over: true,
-            written: 0,
-        };
-    }
-    let reply = call(p.state, &input[from..to], out);
-    let state = reply.state;
-    let written = reply.written;
-    Progress {
-        state,
+    let over = Progress {
+        state: p.state,
         from: 0,
         to: 0,
         wants: false,
         over: true,
-        written,
+        written: 0,
+    };
+    if from == to {
+        return over;
+    }
+    let reply = call(p.state, &input[from..to], out);
+    Progress {
+        state: reply.state,
+        written: reply.written,
+        ..over
     }
 }
 
 fn is_end(wants: bool, got: usize) -> bool
     ensures { result ≡ (wants && eqb got 0) }
 {
-    if wants {
-        return got == 0;
-    }
-    false
+    wants && got == 0
 }
 
 // Nothing came yet.
 pub fn start() -> Progress
     ensures { result ≡ started }
 {
-    let state = fresh();
     Progress {
-        state,
+        state: fresh(),
         from: 0,
         to: 0,
         wants: true,
@@ -145,12 +121,11 @@ pub fn start() -> Progress
 pub fn advance(p: Progress, input: &mut [u8], got: usize, out: &mut [u8]) -> Progress
     ensures { Advances (advanced p got input.old out.old) input.new out.new result }
 {
-    let size = input.len();
-    let to = least(p.to, size);
-    let from = least(p.from, to);
+    let to = p.to.min(input.len());
+    let from = p.from.min(to);
     if is_end(p.wants, got) {
         return finish(p, input, from, to, out);
     }
-    let filled = to + least(got, size - to);
+    let filled = to + got.min(input.len() - to);
     answer(p, input, from, filled, out)
 }

@@ -5,8 +5,8 @@ use Rattle.pieces.proofs.advance.Goals as goal
 
 pub returns-then-is_end : goal.returns-then-is_end
 returns-then-is_end c =
-    advance_end _ _ _ _ _ _ c.least-to.ensures c.least-from.ensures (sym c.if-is_end.ensures) c.finish.ensures
+    advance_end _ _ _ _ _ _ c.min-to.ensures c.min-from.ensures (sym c.if-is_end.ensures) c.finish.ensures
 
 pub returns : goal.returns
 returns c =
-    advance_more _ _ _ _ _ _ c.least-to.ensures c.least-from.ensures (sym c.if-is_end.ensures) _ c.least.ensures c.answer.ensures
+    advance_more _ _ _ _ _ _ c.min-to.ensures c.min-from.ensures (sym c.if-is_end.ensures) _ c.min.ensures c.answer.ensures
