@@ -18,11 +18,11 @@ const PUT: &str = "answers/src/put.rt";
 const EXPORTS: [&str; 3] = ["pub use ", "pub mod put;", "pub fn put_byte("];
 
 /// What an array holds, where that shows that it holds no bytes.
-const HELD: [&str; 10] = ["bool", "false", "u16", "u64", "0u64", "Node", "Part", "Row", "Session", "Slot"];
+const HELD: [&str; 11] = ["bool", "false", "u16", "u64", "0u64", "None", "Option<Node>", "Part", "Row", "Session", "Slot"];
 
 /// What the language itself has that holds and copies no bytes: words, and methods.
-const PLAIN: [&str; 9] = ["Clone", "Copy", "Drop", "Err", "None", "Ok", "Option", "Self", "Some"];
-const PLAIN_METHODS: [&str; 2] = ["len", "ok"];
+const PLAIN: [&str; 11] = ["Clone", "Copy", "Drop", "Eq", "Err", "None", "Ok", "Option", "PartialEq", "Self", "Some"];
+const PLAIN_METHODS: [&str; 3] = ["is_some", "len", "ok"];
 
 /// What the source has of these, by crate.
 const NAMED: &[(&str, &str)] = &[
@@ -74,12 +74,20 @@ const NAMED: &[(&str, &str)] = &[
     ("join", ".read"),
     ("join", ".write_all"),
     // the next hops: numbers of nodes, whose digits a report writes
-    ("calculus", "[u8; 1056]"),
-    ("reports", "[u8; 1056]"),
-    ("tables", "[0; 1056]"),
+    ("calculus", "[Option<u8>; 1056]"),
+    ("reports", "[Option<u8>; 1056]"),
+    ("reports", "&Network"),
+    ("reports", "&Network"),
+    ("reports", "&Network"),
+    ("reports", "&n.nodes"),
+    ("reports", "&n.routes"),
+    // a table of the network, of its nodes or of its next hops
+    ("lookups", "[Option<T>]"),
+    ("lookups", "T"),
+    ("networks", "[T]"),
+    ("networks", "T"),
     // other tables
     ("tables", "[0; 2048]"),
-    ("tables", "[node; 32]"),
     ("tables", "[session; 8]"),
     ("tables", "[slot; 128]"),
     ("tables", "[row; 256]"),
@@ -89,6 +97,8 @@ const NAMED: &[(&str, &str)] = &[
     ("lookups", "[slot; 16]"),
     ("lookups", "[row; 32]"),
     ("simulator", "parts[at] ="),
+    ("simulator", "&mut network"),
+    ("simulator", "&mut network"),
     ("simulator", "&mut users"),
     ("simulator", "&mut users"),
 ];
@@ -292,7 +302,7 @@ fn a_buffer_put_in_is_found() {
         ("answers/src/write.rt", "    match answer {", "let mut line = [0u8; 32];", "[0u8; 32]"),
         ("answers/src/put.rt", "    put_byte(out, next, last)", "let line = [last];", "[last]"),
         ("answers/src/room.rt", "    if size < room", "let mut word = *b\"(made\";", "*b"),
-        ("reports/src/network.rt", "    if 0 < hop {", "let mut routes: [u8; 1056] = [0; 1056];", "[0; 1056]"),
+        ("reports/src/network.rt", "    match hop {", "let mut routes: [u8; 1056] = [0; 1056];", "[0; 1056]"),
         ("simulate/src/main.rt", "    run(&rt, &mut input", "let mut out = [0u8; 131072];", "[0u8; 131072]"),
         ("joins/src/merge.rt", "        end += size;", "let mut lines = [0u8; 65536];", "[0u8; 65536]"),
         // an array of a library

@@ -49,13 +49,13 @@ fn unprotected(gateway: bool, p: Packet) -> bool
     gateway && p.header.is_none() && is_data_or_done(p.payload)
 }
 
-fn onward(next: NextHop, p: Packet) -> Effect
+fn onward(next: Option<NextHop>, p: Packet) -> Effect
     ensures { result ≡ spec.onward next p }
 {
     match next {
-        NextHop::Exact(node) => writes(Item::Wire(node, p)),
-        NextHop::Default(node) => only(Outcome::WroteByDefault(Item::Wire(node, p))),
-        NextHop::Missing => lost(Loss::NoRoute),
+        Some(NextHop::Exact(node)) => writes(Item::Wire(node, p)),
+        Some(NextHop::Default(node)) => only(Outcome::WroteByDefault(Item::Wire(node, p))),
+        None => lost(Loss::NoRoute),
     }
 }
 

@@ -1,8 +1,7 @@
 -- A file that was read, and the lines of two networks' texts, place by place. Private functions of `joins` cite it. Assumes nothing.
-use Rattle.std.specs.Prelude.{ℕ, ◌-◌, ◌≡◌, Bool, true, cond, List, [], ltb, get_or, take, drop}
+use Rattle.std.specs.Prelude.{ℕ, ◌-◌, ◌≡◌, Bool, true, cond, List, [], ltb, get_or, take, drop, None, is_some}
 use Rattle.calculus.specs.declared.network.Network.{Network}
 use Rattle.lines.specs.Behind.{behind}
-use Rattle.model.specs.Network.{no_node}
 use Rattle.model.specs.Join.{File, is_sorted, file_network, is_there}
 use Rattle.joins.specs.declared.Contents.{Contents}
 
@@ -13,7 +12,7 @@ pub record Finds (f : File) (c : Contents) : Type 0 where
 
 -- n has a line at place k: that of node k + 1 or, behind the 32 nodes, of the route at place k − 32
 abbrev pub has_entry : Network → ℕ → Bool
-has_entry n k = cond (ltb k 32) (get_or n.nodes k no_node).given (ltb 0 (get_or n.routes (k - 32) 0))
+has_entry n k = cond (ltb k 32) (is_some (get_or n.nodes k None)) (is_some (get_or n.routes (k - 32) None))
 
 -- the line of l that starts at `from`, with its newline, if it is there
 abbrev pub line_part : List ℕ → ℕ → Bool → List ℕ

@@ -17,9 +17,9 @@ fn has_entry(n: &Network, k: usize) -> bool
     ensures { result ≡ spec.has_entry n.now k }
 {
     if k < 32 {
-        return n.nodes[k].given;
+        return n.nodes[k].is_some();
     }
-    0 < n.routes[k - 32]
+    n.routes[k - 32].is_some()
 }
 
 // The line of `s` that starts at `from`, with its newline, if it is there; else the empty part.

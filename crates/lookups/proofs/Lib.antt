@@ -2,4 +2,3 @@
 pub mod Covers
 pub mod Nodes
 pub mod Walks
-pub mod Within

@@ -1,53 +1,46 @@
 // What is looked up in the network.
-ghost use Rattle.std.specs.Prelude.{◌≡◌, not, ◌||◌};
+ghost use Rattle.std.specs.Prelude.{◌≡◌, not, ◌||◌, None, get_or};
 ghost use Rattle.model.specs.Network as spec;
 
 use calculus::network::{Kind, Network, NextHop, Node};
 use calculus::number::{is_node, pred};
 
-// What stands where no node is given.
-pub fn no_node() -> Node
-    ensures { result ≡ spec.no_node }
+// The entry of a table at a place; past its end there is none.
+fn entry<T: Copy>(table: &[Option<T>], at: usize) -> Option<T>
+    ensures { result ≡ get_or table.now at None }
 {
-    Node {
-        given: false,
-        kind: Kind::Host,
-        has: [false; 64],
-        needs: [false; 64],
+    if at < table.len() {
+        return table[at];
     }
+    None
 }
 
-#[tactic(auto, using(crate::proofs::Nodes::node_bounds, crate::proofs::Within::get_or_within), unfolding(model::specs::Network::node_at))]
-fn node_at(n: &Network, a: u8) -> Node
+// Node `a`, if it was given.
+#[tactic(auto, using(crate::proofs::Nodes::node_bounds), unfolding(model::specs::Network::node_at))]
+fn node_at(n: &Network, a: u8) -> Option<Node>
     ensures { result ≡ spec.node_at n.now a }
 {
     if is_node(a as u64) {
-        return n.nodes[a as usize - 1];
+        return entry(&n.nodes, a as usize - 1);
     }
-    no_node()
+    None
 }
 
 // Whether node `a` was given.
 pub fn given(n: &Network, a: u8) -> bool
     ensures { result ≡ spec.given n.now a }
 {
-    node_at(n, a).given
-}
-
-fn is_gate(k: Kind) -> bool
-    ensures { result ≡ spec.is_gate k }
-{
-    match k {
-        Kind::Host => false,
-        Kind::Gateway => true,
-    }
+    node_at(n, a).is_some()
 }
 
 // Whether `a` was given as a gateway.
 pub fn is_gateway(n: &Network, a: u8) -> bool
     ensures { result ≡ spec.is_gateway n.now a }
 {
-    is_gate(node_at(n, a).kind)
+    match node_at(n, a) {
+        Some(node) => node.kind == Kind::Gateway,
+        None => false,
+    }
 }
 
 // The place of the route from node `a` for destination `b`.
@@ -57,41 +50,33 @@ pub fn route_place(a: u8, b: u8) -> usize
     33 * pred(a) as usize + b as usize
 }
 
-// The next node of the route from node `a` for destination `b`, 0 where none was given; past the end of the table there is none.
-pub fn route_to(n: &Network, a: u8, b: u8) -> u8
+// The next node of the route from node `a` for destination `b`, if one was given.
+pub fn route_to(n: &Network, a: u8, b: u8) -> Option<u8>
     ensures { result ≡ spec.route_to n.now a b }
 {
-    let at = route_place(a, b);
-    if at < 1056 {
-        return n.routes[at];
-    }
-    0
+    entry(&n.routes, route_place(a, b))
 }
 
 // By a route of its own, else by the default, which is asked only then.
-fn hop(n: &Network, a: u8, b: u8) -> NextHop
+fn hop(n: &Network, a: u8, b: u8) -> Option<NextHop>
     ensures { result ≡ spec.hop (spec.route_to n.now a b) (spec.route_to n.now a 0) }
 {
-    let exact = route_to(n, a, b);
-    if 0 < exact {
-        return NextHop::Exact(exact);
+    if let Some(next) = route_to(n, a, b) {
+        return Some(NextHop::Exact(next));
     }
-    let default = route_to(n, a, 0);
-    if 0 < default {
-        return NextHop::Default(default);
-    }
-    NextHop::Missing
+    let next = route_to(n, a, 0)?;
+    Some(NextHop::Default(next))
 }
 
 // The next hop from `a` for `b`; none where `a` or `b` is no node.
 #[tactic(auto, unfolding(model::specs::Network::next_hop))]
-pub fn next_hop(n: &Network, a: u8, b: u8) -> NextHop
+pub fn next_hop(n: &Network, a: u8, b: u8) -> Option<NextHop>
     ensures { result ≡ spec.next_hop n.now a b }
 {
     if is_node(a as u64) && is_node(b as u64) {
         return hop(n, a, b);
     }
-    NextHop::Missing
+    None
 }
 
 // Whether a credential is had, or not needed.
@@ -116,6 +101,26 @@ fn covers(has: &[bool; 64], needs: &[bool; 64]) -> bool
     true
 }
 
+// What a node has; one that was not given has nothing.
+fn had(node: Option<Node>) -> [bool; 64]
+    ensures { result ≡ spec.had node }
+{
+    match node {
+        Some(node) => node.has,
+        None => [false; 64],
+    }
+}
+
+// What a node needs; one that was not given needs nothing.
+fn needed(node: Option<Node>) -> [bool; 64]
+    ensures { result ≡ spec.needed node }
+{
+    match node {
+        Some(node) => node.needs,
+        None => [false; 64],
+    }
+}
+
 // Whether `q` has all that `a` needs.
 #[tactic(auto, unfolding(model::specs::Network::has_all_needed))]
 pub fn has_all_needed(n: &Network, a: u8, q: u8) -> bool
@@ -123,5 +128,5 @@ pub fn has_all_needed(n: &Network, a: u8, q: u8) -> bool
 {
     let peer = node_at(n, q);
     let node = node_at(n, a);
-    covers(&peer.has, &node.needs)
+    covers(&had(peer), &needed(node))
 }

@@ -10,8 +10,9 @@ use Rattle.calculus.proofs.Tests.{both, never, either}
 use Rattle.calculus.specs.declared.answer.Loss.{Loss}
 use Rattle.calculus.specs.declared.effect.Effect.{Effect}
 use Rattle.calculus.specs.declared.network.Network.{Network}
+use Rattle.std.specs.Prelude.{Option, Some, None}
 use Rattle.calculus.specs.declared.network.NextHop.{NextHop}
-use Rattle.calculus.specs.declared.network.NextHop.TheVariants.{Exact, Default, Missing}
+use Rattle.calculus.specs.declared.network.NextHop.TheVariants.{Exact, Default}
 use Rattle.calculus.specs.declared.packet.Payload.{Payload}
 use Rattle.calculus.specs.declared.packet.Payload.TheVariants.{Req, Rep, Disc, Done}
 use Rattle.calculus.specs.declared.packet.Header.{Header}
@@ -74,10 +75,10 @@ module _ (net : Network) (t : Part) (n : ℕ) where
     wrote h p = record { counted = h; written = λ o. p; added = tt }
 
     -- whatever the look-up says; with no next node there is no item to place
-    moved_on : (next : NextHop) (p : Packet) → n + 1 ≤ ceiling → Place (Wire (next_node next) p) → After (onward next p)
-    moved_on (Exact next) p few w = record { counted = few; written = λ o. w; added = tt }
-    moved_on (Default next) p few w = record { counted = few; written = λ o. w; added = tt }
-    moved_on Missing p few w = loses few
+    moved_on : (next : Option NextHop) (p : Packet) → n + 1 ≤ ceiling → Place (Wire (next_node next) p) → After (onward next p)
+    moved_on (Some (Exact next)) p few w = record { counted = few; written = λ o. w; added = tt }
+    moved_on (Some (Default next)) p few w = record { counted = few; written = λ o. w; added = tt }
+    moved_on None p few w = loses few
 
     -- a packet on its way goes on, is lost or is received
     on_trip : {j : ℕ} {f : Effect} {x z : ℕ} {y : Payload} → n + 1 ≤ ceiling → Travels x z y j f

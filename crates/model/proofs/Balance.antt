@@ -12,8 +12,9 @@ use Rattle.calculus.proofs.Tests.{either}
 use Rattle.calculus.specs.declared.effect.Wait.{Wait}
 use Rattle.calculus.specs.declared.effect.Effect.{Effect}
 use Rattle.calculus.specs.declared.network.Network.{Network}
+use Rattle.std.specs.Prelude.{Option, Some, None}
 use Rattle.calculus.specs.declared.network.NextHop.{NextHop}
-use Rattle.calculus.specs.declared.network.NextHop.TheVariants.{Exact, Default, Missing}
+use Rattle.calculus.specs.declared.network.NextHop.TheVariants.{Exact, Default}
 use Rattle.calculus.specs.declared.packet.Payload.{Payload}
 use Rattle.calculus.specs.declared.packet.Payload.TheVariants.{Req, Rep, Disc, Done, Data}
 use Rattle.calculus.specs.declared.packet.Packet.{Packet}
@@ -54,11 +55,11 @@ pub record Law (s : Session) (i : Item) (f : Effect) : Type 0 where
   pub adds : length (added_rows f.added) ≤ 2 * count is_grant i
   pub begins : (s.begun ≤ begun_after s.begun f.begins) × (begun_after s.begun f.begins ≤ s.begun + active i)
 
-onward_law : (next : NextHop) (s : Session) (a : ℕ) (p : Packet) → Law s (Wire a p) (onward next (fewer p))
+onward_law : (next : Option NextHop) (s : Session) (a : ℕ) (p : Packet) → Law s (Wire a p) (onward next (fewer p))
 unfolding uses space carries active due
-onward_law (Exact next) s a p = omega arith
-onward_law (Default next) s a p = omega arith
-onward_law Missing s a p = omega arith
+onward_law (Some (Exact next)) s a p = omega arith
+onward_law (Some (Default next)) s a p = omega arith
+onward_law None s a p = omega arith
 
 -- a Disc that begins an establishment
 begin_law : (s : Session) (a : ℕ) (p : Packet) → p.payload ≡ Disc (last_point p.payload) → s.begun < 8
@@ -80,7 +81,7 @@ begin_law s a p x b =
       begins = omega (arith, i);
     }
 
-wire_law : (gateway : Bool) (look : ℕ → NextHop) (s : Session) (a : ℕ) (p : Packet) → Law s (Wire a p) (wire_rule gateway look s a p)
+wire_law : (gateway : Bool) (look : ℕ → Option NextHop) (s : Session) (a : ℕ) (p : Packet) → Law s (Wire a p) (wire_rule gateway look s a p)
 unfolding uses space carries active due wire_rule
 wire_law gateway look s a p =
     let P = Law s (Wire a p) in

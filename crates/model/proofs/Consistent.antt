@@ -1,39 +1,40 @@
 -- Node and route calls keep a network consistent. Assumes nothing.
-use mathlib.Core.Path.{◌≡◌, refl, sym, subst, ◌∙◌}
+use mathlib.Core.Path.{◌≡◌, refl, sym, ap, subst, ◌∙◌}
 use mathlib.Core.Bool.{Bool, true, false, cond, ◌&&◌, ◌||◌}
 use mathlib.Core.List.{List}
 use Prim.Native.Nat.{ℕ, ◌-◌, ◌<◌}
 use native.Mathlib.Decide.{ℕ_discrete}
 use native.Mathlib.Omega.{arith}
-use borrow.Author.Tests.{ltb-true, eqb-true, eq-eqb}
-use lib.Dec.{ltb, eqb}
+use borrow.Author.Tests.{eqb-true, eq-eqb}
+use lib.Dec.{eqb}
 use lib.ListN.{length, get_or, length-set, length-replicate, get_or-replicate}
 use lib.Seq.{get_or-set_same, get_or-set_other}
+use Rattle.std.specs.Prelude.{Option, Some, None, is_some}
 use Rattle.calculus.specs.Number.{is_node}
 use Rattle.calculus.proofs.Tests.{never, either, both, not_so, within_bounds}
 use Rattle.calculus.specs.declared.network.Kind.{Kind}
 use Rattle.calculus.specs.declared.network.Network.{Network}
 use Rattle.calculus.specs.declared.network.Node as declared
-use Rattle.model.specs.Network.{no_node, node_at, given, is_default, route_place, route_to}
+use Rattle.model.specs.Network.{node_at, given, is_default, route_place, route_to}
 use Rattle.model.specs.State.{fresh}
 use Rattle.model.specs.Requests.{with_node, with_route, destination_given, nodes_given, leads_back}
 use Rattle.model.specs.GivenBack.{IsPlace, Passes, Consistent}
 use Rattle.model.proofs.Lists.{all_set, all_replicate, get_set}
-use Rattle.model.proofs.Nodes.{Node, Destination, nodes_given_lem, InRange, nodes_range, empty_place}
+use Rattle.model.proofs.Nodes.{Node, Destination, nodes_given_lem, InRange, nodes_range}
 
 place_below : (a b : ℕ) → Node a → Destination b → route_place a b < 1056
 place_below a b h g = omega (arith, within_bounds 1 32 a h, within_bounds 0 32 b g)
 
-pub route_fresh : (a b : ℕ) → Node a → Destination b → route_to fresh.network a b ≡ 0
-route_fresh a b i j = get_or-replicate {A = ℕ} 1056 (route_place a b) 0 0 (place_below a b i j)
+pub route_fresh : (a b : ℕ) → Node a → Destination b → route_to fresh.network a b ≡ None
+route_fresh a b i j = get_or-replicate {A = Option ℕ} 1056 (route_place a b) None None (place_below a b i j)
 
 pub consistent_fresh : Consistent fresh.network
 consistent_fresh =
     record {
-      nodes = length-replicate 32 no_node;
-      routes = length-replicate {A = ℕ} 1056 0;
-      places = all_replicate IsPlace 32 no_node empty_place;
-      routed = λ a b i j e. absurd (omega (arith, route_fresh a b i j, ltb-true 0 (route_to fresh.network a b) e));
+      nodes = length-replicate {A = Option declared.Node} 32 None;
+      routes = length-replicate {A = Option ℕ} 1056 None;
+      places = all_replicate IsPlace 32 None tt;
+      routed = λ a b next i j e. never (ap is_some (sym (route_fresh a b i j) ∙ e));
     }
 
 -- ---- nodes more
@@ -57,21 +58,21 @@ module _ (n : Network) (a : ℕ) (k : Kind) (has needs : List Bool) where
   unfolding node_at
   given_still b = go (is_node b)
     where
-      go : (t : Bool) → (cond t (get_or n.nodes (b - 1) no_node) no_node).given ≡ true
-          → (cond t (get_or (with_node n a k has needs).nodes (b - 1) no_node) no_node).given ≡ true
-      go true h = get_set (λ (x : declared.Node). x.given ≡ true) n.nodes (b - 1) (a - 1) _ no_node h refl
+      go : (t : Bool) → is_some (cond t (get_or n.nodes (b - 1) None) None) ≡ true
+          → is_some (cond t (get_or (with_node n a k has needs).nodes (b - 1) None) None) ≡ true
+      go true h = get_set (λ (x : Option declared.Node). is_some x ≡ true) n.nodes (b - 1) (a - 1) _ None h refl
       go false h = never h
 
   pub consistent_node : length has ≡ 64 → length needs ≡ 64 → Consistent n → Consistent (with_node n a k has needs)
   consistent_node i j h =
-      let x : declared.Node = record { given = true; kind = k; has = has; needs = needs } in
+      let x : Option declared.Node = Some (record { kind = k; has = has; needs = needs }) in
       record {
         nodes = length-set n.nodes (a - 1) x ∙ h.nodes;
         routes = h.routes;
-        places = all_set IsPlace n.nodes (a - 1) x h.places (record { has = i; needs = j; empty = λ e. never (sym e) });
-        routed = λ b d u v e.
-            let r = h.routed b d u v e in
-            (nodes_kept n (with_node n a k has needs) given_still b d (route_to n b d) r.0, r.1);
+        places = all_set IsPlace n.nodes (a - 1) x h.places (record { has = i; needs = j });
+        routed = λ b d next u v e.
+            let r = h.routed b d next u v e in
+            (nodes_kept n (with_node n a k has needs) given_still b d next r.0, r.1);
       }
 
 -- ---- a route more
@@ -85,18 +86,18 @@ same_place a b c d h g i j e =
     (omega arith, omega arith)
 
 module _ (n : Network) (h : Consistent n) (a b next : ℕ) (at : Node a) (for : Destination b) where
-  pub route_set : (c d : ℕ) → Node c → Destination d → route_to (with_route n a b next) c d ≡ cond (eqb c a && eqb d b) next (route_to n c d)
+  pub route_set : (c d : ℕ) → Node c → Destination d → route_to (with_route n a b next) c d ≡ cond (eqb c a && eqb d b) (Some next) (route_to n c d)
   route_set c d i j = go (ℕ_discrete (route_place c d) (route_place a b))
     where
-      go : Dec (route_place c d ≡ route_place a b) → route_to (with_route n a b next) c d ≡ cond (eqb c a && eqb d b) next (route_to n c d)
+      go : Dec (route_place c d ≡ route_place a b) → route_to (with_route n a b next) c d ≡ cond (eqb c a && eqb d b) (Some next) (route_to n c d)
       go (yes w) =
           let s = same_place c d a b i j at for w in
-          let same = get_or-set_same n.routes (route_place a b) next 0 (omega (arith, place_below a b at for, h.routes)) in
+          let same = get_or-set_same n.routes (route_place a b) (Some next) None (omega (arith, place_below a b at for, h.routes)) in
           rw (w, same, eq-eqb c a s.0, eq-eqb d b s.1)
       go (no w) =
           let apart = not_so (eqb c a && eqb d b)
           (λ e. let z = both (eqb c a) (eqb d b) e in w (rw (eqb-true c a z.0, eqb-true d b z.1))) in
-          rw apart (get_or-set_other n.routes (route_place a b) (route_place c d) next 0 w)
+          rw apart (get_or-set_other n.routes (route_place a b) (route_place c d) (Some next) None w)
 
 pub consistent_route : (n : Network) (a b next : ℕ) → nodes_given n a b next ≡ true → leads_back a b next ≡ false → Consistent n
     → Consistent (with_route n a b next)
@@ -104,16 +105,20 @@ unfolding node_at
 consistent_route n a b next e f h =
     record {
       nodes = h.nodes;
-      routes = length-set n.routes (route_place a b) next ∙ h.routes;
+      routes = length-set n.routes (route_place a b) (Some next) ∙ h.routes;
       places = h.places;
-      routed = λ c d i j. subst (λ (m : ℕ). ltb 0 m ≡ true → Passes n c d m) (sym (route_set n h a b next r.at r.for c d i j)) (passes c d i j);
+      routed = λ c d m i j.
+          subst (λ (x : Option ℕ). x ≡ Some m → Passes n c d m) (sym (route_set n h a b next r.at r.for c d i j)) (passes c d m i j);
     }
   where
     r : InRange a b next
     r = nodes_range n a b next e
 
-    passes : (c d : ℕ) → Node c → Destination d → let m = cond (eqb c a && eqb d b) next (route_to n c d) in ltb 0 m ≡ true → Passes n c d m
-    passes c d i j =
-        either (λ (m : ℕ). ltb 0 m ≡ true → Passes n c d m) (eqb c a && eqb d b)
-        (λ w k. let z = both (eqb c a) (eqb d b) w in rw (eqb-true c a z.0, eqb-true d b z.1) (e, f))
-        (λ w. h.routed c d i j)
+    passes : (c d m : ℕ) → Node c → Destination d → cond (eqb c a && eqb d b) (Some next) (route_to n c d) ≡ Some m → Passes n c d m
+    passes c d m i j =
+        either (λ (x : Option ℕ). x ≡ Some m → Passes n c d m) (eqb c a && eqb d b)
+        (λ w k.
+        let z = both (eqb c a) (eqb d b) w in
+        let same : m ≡ next = cc in
+        rw (eqb-true c a z.0, eqb-true d b z.1, same) (e, f))
+        (λ w. h.routed c d m i j)

@@ -2,12 +2,12 @@
 use mathlib.Core.Path.{◌≡◌, refl, sym, ap, subst, ◌∙◌}
 use mathlib.Core.Bool.{Bool, true, false}
 use mathlib.Core.List.{List, [], ◌∷◌, ◌++◌, map, append-nil}
-use Prim.Native.Nat.{ℕ, ◌≤◌}
+use Prim.Native.Nat.{ℕ, ◌+◌, ◌≤◌}
 use native.Mathlib.Omega.{arith}
-use lib.Dec.{ltb}
+use Rattle.std.specs.Prelude.{Option, Some, None}
 use lib.ListN.{length, get_or, take, drop, length-append}
 use lib.Seq.{take_at, take-append_seam}
-use Rattle.calculus.specs.Table.{entries_from, only_if}
+use Rattle.calculus.specs.Table.{entries_from, of_some}
 use Rattle.calculus.specs.declared.network.Network.{Network}
 use Rattle.calculus.specs.declared.state.State.{State}
 use Rattle.calculus.proofs.Tests.{Way, is, isnt, way, never, not_so}
@@ -17,8 +17,7 @@ use Rattle.forms.specs.Answer.{answer_text}
 use Rattle.forms.specs.Line.{lines}
 use Rattle.forms.proofs.FormLines.{lines_forms, lines_forms_append}
 use Rattle.forms.proofs.Joined.{lines_append}
-use Rattle.model.specs.Network.{no_node}
-use Rattle.model.specs.NetworkText.{node_form, route_form, network_forms, network_text}
+use Rattle.model.specs.NetworkText.{node_entry, node_form, route_entry, route_form, network_forms, network_text}
 use Rattle.model.specs.State.{fresh}
 use Rattle.model.specs.Calls.{lines_of, replies, roomy_call}
 use Rattle.model.specs.Batch.{Batch, answered_text}
@@ -44,16 +43,16 @@ unfolding replies answer_text
 gives_answers none_left = refl
 gives_answers (one_more e g) = rw (e, gives_answers g)
 
-ok_most : (b : Bool) (f : Form) → length (joined (map ok_line (only_if b f))) ≤ 5
-ok_most true f = omega arith
-ok_most false f = omega arith
+ok_most : {A : Type 0} (f : A → Form) (x : Option A) → length (joined (map ok_line (of_some f x))) ≤ 5
+ok_most f None = omega arith
+ok_most f (Some x) = omega arith
 
 ok_width : (n : Network) → Consistent n → length (joined (map ok_line (network_forms n))) ≤ 5440
 ok_width n h =
     let fs = entries_from node_form 1 n.nodes in
     let gs = entries_from route_form 0 n.routes in
-    let nodes = entries_width ok_line (λ j. 5) node_form 1 n.nodes no_node (λ j w. ok_most (get_or n.nodes j no_node).given _) in
-    let routes = entries_width ok_line (λ j. 5) route_form 0 n.routes 0 (λ p w. ok_most (ltb 0 (get_or n.routes p 0)) _) in
+    let nodes = entries_width ok_line (λ j. 5) node_form 1 n.nodes None (λ j w. ok_most (node_entry (1 + j)) (get_or n.nodes j None)) in
+    let routes = entries_width ok_line (λ j. 5) route_form 0 n.routes None (λ p w. ok_most (route_entry (0 + p)) (get_or n.routes p None)) in
     rw (lines_append ok_line fs gs, length-append (joined (map ok_line fs)) (joined (map ok_line gs)))
     (omega (arith, nodes, routes, h.nodes, h.routes, total_constant 5 1 (length n.nodes), total_constant 5 0 (length n.routes)))
 

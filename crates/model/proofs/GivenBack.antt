@@ -7,13 +7,14 @@ use native.Mathlib.Nat.{zero-add}
 use native.Mathlib.Omega.{arith}
 use lib.Dec.{ltb, eqb}
 use lib.ListN.{length, get_or, length-append}
+use Rattle.std.specs.Prelude.{Option, Some, None}
 use Rattle.calculus.specs.Table.{entries_from}
 use Rattle.calculus.proofs.Tests.{neither, within_bounds}
 use Rattle.calculus.specs.declared.network.Network.{Network}
+use Rattle.calculus.specs.declared.network.Node.{Node}
 use Rattle.calculus.specs.declared.state.State.{State}
 use Rattle.forms.specs.Bytes.{decimal, digits_of, joined}
-use Rattle.forms.specs.Text.{route, net, text, form_line}
-use Rattle.forms.specs.Request.{node_of}
+use Rattle.forms.specs.Text.{net, text, form_line}
 use Rattle.forms.specs.Line.{lines}
 use Rattle.forms.proofs.Decimal.{width_most}
 use Rattle.forms.proofs.FormLines.{lines_forms}
@@ -21,13 +22,13 @@ use Rattle.forms.proofs.Joined.{lines_append}
 use Rattle.forms.proofs.LineWidths.{node_width, route_width}
 use Rattle.forms.proofs.ReadAgain.{net_read}
 use Rattle.model.specs.Lists.{All}
-use Rattle.model.specs.Network.{no_node, place_at, place_destination}
-use Rattle.model.specs.NetworkText.{node_form, route_form, network_forms, network_lines, network_text}
+use Rattle.model.specs.Network.{place_at, place_destination}
+use Rattle.model.specs.NetworkText.{node_entry, node_form, route_entry, route_form, network_forms, network_lines, network_text}
 use Rattle.model.specs.State.{fresh}
 use Rattle.model.specs.Calls.{reported, short, answered, requested, replies, roomy_call}
 use Rattle.model.specs.Texts.{after_lines}
-use Rattle.model.specs.GivenBack.{Consistent, fresh_with, AnsweredOk, GivenBack}
-use Rattle.model.proofs.Tables.{total, only_width, entries_width}
+use Rattle.model.specs.GivenBack.{IsPlace, Consistent, fresh_with, AnsweredOk, GivenBack}
+use Rattle.model.proofs.Tables.{total, one_width, entries_width}
 use Rattle.model.proofs.Nodes.{nodes_range, place_is}
 use Rattle.model.proofs.Reached.{reached}
 use Rattle.model.proofs.Ordered.{text_ordered}
@@ -66,31 +67,35 @@ module _ (n : Network) (h : Consistent n) where
 
   -- ---- how long it is
 
-  node_most_lem : (j : ℕ) → length (joined (map form_line (node_form (1 + j) (get_or n.nodes j no_node)))) ≤ node_most (1 + j)
-  node_most_lem j =
-      let x = get_or n.nodes j no_node in
-      let g = place_is n h j in
-      only_width form_line (node_most (1 + j)) x.given (node_of (1 + j) x.kind x.has x.needs)
-      (λ e. simp length-append (omega (arith, node_width (1 + j) x.kind x.has x.needs g.has g.needs)))
+  node_most_lem : (j : ℕ) → length (joined (map form_line (node_form (1 + j) (get_or n.nodes j None)))) ≤ node_most (1 + j)
+  node_most_lem j = go (get_or n.nodes j None) (place_is n h j)
+    where
+      go : (x : Option Node) → IsPlace x → length (joined (map form_line (node_form (1 + j) x))) ≤ node_most (1 + j)
+      go None g = omega arith
+      go (Some x) g =
+          one_width form_line (node_most (1 + j)) (node_entry (1 + j) x)
+          (simp length-append (omega (arith, node_width (1 + j) x.kind x.has x.needs g.has g.needs)))
 
-  route_most_lem : (p : ℕ) → p < 1056 → length (joined (map form_line (route_form p (get_or n.routes p 0)))) ≤ route_most p
-  route_most_lem p w =
-      let a = place_at p in
-      let b = place_destination p in
-      let next = get_or n.routes p 0 in
-      only_width form_line (route_most p) (ltb 0 next) (route a b next)
-      (λ e.
-      let r = place_routed n h p next w refl e in
-      let apart = (neither (eqb a b) (eqb a next) r.1).0 in
-      let by = within_bounds 1 32 next (nodes_range n a b next r.0).by in
-      rw apart (simp length-append (omega (arith, route_width a b next, width_most 1 next (omega arith)))))
+  route_most_lem : (p : ℕ) → p < 1056 → length (joined (map form_line (route_form p (get_or n.routes p None)))) ≤ route_most p
+  route_most_lem p w = go (get_or n.routes p None) refl
+    where
+      go : (x : Option ℕ) → get_or n.routes p None ≡ x → length (joined (map form_line (route_form p x))) ≤ route_most p
+      go None e = omega arith
+      go (Some next) e =
+          let a = place_at p in
+          let b = place_destination p in
+          let r = place_routed n h p next w e in
+          let apart = (neither (eqb a b) (eqb a next) r.1).0 in
+          let by = within_bounds 1 32 next (nodes_range n a b next r.0).by in
+          one_width form_line (route_most p) (route_entry p next)
+          (rw apart (simp length-append (omega (arith, route_width a b next, width_most 1 next (omega arith)))))
 
   text_width : length (network_text n) ≤ 29376
   text_width =
       let fs = entries_from node_form 1 n.nodes in
       let gs = entries_from route_form 0 n.routes in
-      let nodes = rw h.nodes at (entries_width form_line node_most node_form 1 n.nodes no_node (λ j w. node_most_lem j)) in
-      let routes = rw h.routes at (entries_width form_line route_most route_form 0 n.routes 0 (λ p w. rw (zero-add p) (route_most_lem p (omega arith)))) in
+      let nodes = rw h.nodes at (entries_width form_line node_most node_form 1 n.nodes None (λ j w. node_most_lem j)) in
+      let routes = rw h.routes at (entries_width form_line route_most route_form 0 n.routes None (λ p w. rw (zero-add p) (route_most_lem p (omega arith)))) in
       rw (lines_append form_line fs gs, length-append (joined (map form_line fs)) (joined (map form_line gs)))
       (omega (arith, nodes, routes, nodes_most, routes_most))
 

@@ -21,7 +21,7 @@ use Rattle.model.specs.Lists.{All}
 use Rattle.model.specs.Network.{given, is_routed}
 use Rattle.model.specs.Requests.{checked, with_node, with_route, node_turn, route_turn}
 use Rattle.model.specs.Calls.{answer, Reply, Call, call, answered, requested, after, replies, roomy_call}
-use Rattle.model.specs.GivenBack.{IsPlace, Passes, fresh_with, AnsweredOk}
+use Rattle.model.specs.GivenBack.{IsNode, Passes, fresh_with, AnsweredOk}
 use Rattle.model.proofs.Nodes.{Node, nodes_range}
 
 -- ---- one line
@@ -32,7 +32,7 @@ line_of f = roomy_call (text f)
 abbrev pub ok : State → Reply
 ok s = record { state = s; lines = answer Ok; refusal = none }
 
-pub node_ok : (n : Network) (a : ℕ) (x : declared.Node) → Node a → given n a ≡ false → IsPlace x
+pub node_ok : (n : Network) (a : ℕ) (x : declared.Node) → Node a → given n a ≡ false → IsNode x
     → call (fresh_with n) (line_of (node_of a x.kind x.has x.needs))
     ≡ ok (fresh_with (with_node n a x.kind x.has x.needs))
 unfolding answered requested node_turn checked

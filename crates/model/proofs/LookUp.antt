@@ -3,12 +3,13 @@ use mathlib.Core.Path.{◌≡◌, refl, sym, ◌∙◌}
 use mathlib.Core.Bool.{Bool, true, false, cond, and-false, ◌&&◌}
 use Prim.Native.Nat.{ℕ}
 use native.Mathlib.Omega.{arith}
-use lib.Dec.{eqb, ltb}
-use borrow.Author.Tests.{eqb-true, ne_eqb, lt-ltb, not-false}
+use lib.Dec.{eqb}
+use Rattle.std.specs.Prelude.{Option, Some, None, is_some}
+use borrow.Author.Tests.{eqb-true, ne_eqb, not-false}
 use Rattle.calculus.specs.Number.{is_node}
 use Rattle.calculus.specs.declared.answer.Answer.TheVariants.{Ok}
 use Rattle.calculus.specs.declared.network.Network.{Network}
-use Rattle.calculus.specs.declared.network.NextHop.TheVariants.{Exact, Missing}
+use Rattle.calculus.specs.declared.network.NextHop.TheVariants.{Exact}
 use Rattle.calculus.specs.declared.state.State.{State}
 use Rattle.calculus.specs.declared.state.Turn.{Turn}
 use Rattle.calculus.proofs.Tests.{Way, is, isnt, way, clash, never, not_so, both, within_bounds}
@@ -27,52 +28,47 @@ hop_between : (n : Network) (x y : ℕ) → Node x → Node y → next_hop n x y
 unfolding next_hop
 hop_between n x y i j = rw (i, j)
 
-hop_missing : (n : Network) (x y : ℕ) → (is_node x && is_node y) ≡ false → next_hop n x y ≡ Missing
+no_hop : (n : Network) (x y : ℕ) → (is_node x && is_node y) ≡ false → next_hop n x y ≡ None
 unfolding next_hop
-hop_missing n x y e = rw e
+no_hop n x y e = rw e
 
 -- ---- a route more
 
-exact_hop : (t : Bool) (next u v : ℕ) → ltb 0 next ≡ true → hop (cond t next u) v ≡ cond t (Exact next) (hop u v)
-exact_hop true next u v e = rw e
-exact_hop false next u v e = refl
+exact_hop : (t : Bool) (next : ℕ) (u v : Option ℕ) → hop (cond t (Some next) u) v ≡ cond t (Some (Exact next)) (hop u v)
+exact_hop true next u v = refl
+exact_hop false next u v = refl
 
 -- where there was no default
-default_hop : (next u v : ℕ) → ltb 0 next ≡ true → ltb 0 v ≡ false → hop u next ≡ with_default next (hop u v)
-default_hop next u v e f = go (way (ltb 0 u))
-  where
-    go : Way (ltb 0 u) → hop u next ≡ with_default next (hop u v)
-    go (is w) = rw w
-    go (isnt w) = rw (w, e, f)
-
-positive : (next : ℕ) → Node next → ltb 0 next ≡ true
-positive next i = lt-ltb 0 next (within_bounds 1 32 next i).0
+default_hop : (next : ℕ) (u v : Option ℕ) → is_some v ≡ false → hop u (Some next) ≡ with_default next (hop u v)
+default_hop next (Some u) v e = refl
+default_hop next None None e = refl
+default_hop next None (Some v) e = never (sym e)
 
 hop_set : (n : Network) → Consistent n → (a b next : ℕ) → InRange a b next → (x y : ℕ) → Node x → Node y
     → next_hop (with_route n a b next) x y
-    ≡ hop (cond (eqb x a && eqb y b) next (route_to n x y)) (cond (eqb x a && eqb 0 b) next (route_to n x 0))
+    ≡ hop (cond (eqb x a && eqb y b) (Some next) (route_to n x y)) (cond (eqb x a && eqb 0 b) (Some next) (route_to n x 0))
 hop_set n h a b next r x y i j =
     hop_between (with_route n a b next) x y i j
     ∙ rw (route_set n h a b next r.at r.for x y i (node_destination y j), route_set n h a b next r.at r.for x 0 i refl)
 
 exact_set : (n : Network) → Consistent n → (a b next : ℕ) → InRange a b next → Node b → (x y : ℕ)
-    → next_hop (with_route n a b next) x y ≡ cond (eqb x a && eqb y b) (Exact next) (next_hop n x y)
+    → next_hop (with_route n a b next) x y ≡ cond (eqb x a && eqb y b) (Some (Exact next)) (next_hop n x y)
 exact_set n h a b next r k x y = go (way (is_node x && is_node y))
   where
-    go : Way (is_node x && is_node y) → next_hop (with_route n a b next) x y ≡ cond (eqb x a && eqb y b) (Exact next) (next_hop n x y)
+    go : Way (is_node x && is_node y) → next_hop (with_route n a b next) x y ≡ cond (eqb x a && eqb y b) (Some (Exact next)) (next_hop n x y)
     go (is e) =
         let i = both (is_node x) (is_node y) e in
         let apart = ne_eqb 0 b (λ z. omega (arith, within_bounds 1 32 b k)) in
         hop_set n h a b next r x y i.0 i.1
         ∙ rw (apart, and-false (eqb x a), hop_between n x y i.0 i.1)
-        (exact_hop (eqb x a && eqb y b) next (route_to n x y) (route_to n x 0) (positive next r.by))
+        (exact_hop (eqb x a && eqb y b) next (route_to n x y) (route_to n x 0))
     go (isnt e) =
         let other = not_so (eqb x a && eqb y b)
         (λ w.
         let z = both (eqb x a) (eqb y b) w in
         let i : (is_node x && is_node y) ≡ true = rw (eqb-true x a z.0, eqb-true y b z.1, r.at, k) in
         never (sym e ∙ i)) in
-        rw (other, hop_missing (with_route n a b next) x y e, hop_missing n x y e)
+        rw (other, no_hop (with_route n a b next) x y e, no_hop n x y e)
 
 default_set : (n : Network) → Consistent n → (a next : ℕ) → InRange a 0 next → is_routed n a 0 ≡ false → (x y : ℕ) → Node y
     → next_hop (with_route n a 0 next) x y ≡ cond (eqb x a) (with_default next (next_hop n x y)) (next_hop n x y)
@@ -86,10 +82,10 @@ default_set n h a next r free x y j = go (way (is_node x)) (way (eqb x a))
         let w = eqb-true x a e in
         hop_set n h a 0 next r x y i j
         ∙ rw (e, below, hop_between n x y i j)
-        (default_hop next (route_to n x y) (route_to n x 0) (positive next r.by) (rw w free))
+        (default_hop next (route_to n x y) (route_to n x 0) (rw w free))
     go (is i) (isnt e) = hop_set n h a 0 next r x y i j ∙ rw (e, hop_between n x y i j)
     go (isnt i) (is e) = never (sym i ∙ rw (eqb-true x a e) r.at)
-    go (isnt i) (isnt e) = let z : (is_node x && is_node y) ≡ false = rw i in rw (e, hop_missing (with_route n a 0 next) x y z, hop_missing n x y z)
+    go (isnt i) (isnt e) = let z : (is_node x && is_node y) ≡ false = rw i in rw (e, no_hop (with_route n a 0 next) x y z, no_hop n x y z)
 
 -- ---- an accepted call
 
@@ -108,19 +104,19 @@ look_up =
     record {
       at_first = none;
       exact = λ s a b next h k e x y.
-          route_accepted (λ (m : Network). next_hop m x y ≡ cond (eqb x a && eqb y b) (Exact next) (next_hop s.network x y)) s a b next
+          route_accepted (λ (m : Network). next_hop m x y ≡ cond (eqb x a && eqb y b) (Some (Exact next)) (next_hop s.network x y)) s a b next
           (λ r f. exact_set s.network h a b next r k x y) e;
       default = λ s a next h e x y j.
           route_accepted (λ (m : Network). next_hop m x y ≡ cond (eqb x a) (with_default next (next_hop s.network x y)) (next_hop s.network x y)) s a 0 next
           (λ r f. default_set s.network h a next r f x y j) e;
     }
   where
-    none : (x y : ℕ) → next_hop fresh.network x y ≡ Missing
+    none : (x y : ℕ) → next_hop fresh.network x y ≡ None
     none x y = go (way (is_node x && is_node y))
       where
-        go : Way (is_node x && is_node y) → next_hop fresh.network x y ≡ Missing
+        go : Way (is_node x && is_node y) → next_hop fresh.network x y ≡ None
         go (is e) =
             let i = both (is_node x) (is_node y) e in
             hop_between fresh.network x y i.0 i.1
             ∙ rw (route_fresh x y i.0 (node_destination y i.1), route_fresh x 0 i.0 refl)
-        go (isnt e) = hop_missing fresh.network x y e
+        go (isnt e) = no_hop fresh.network x y e

@@ -13,8 +13,9 @@ use Rattle.calculus.specs.declared.effect.Outcome.{Outcome}
 use Rattle.calculus.specs.declared.effect.Outcome.TheVariants.{Wrote, WroteByDefault, WroteTwo, Lost, Denied, Opened, Delivered}
 use Rattle.calculus.specs.declared.effect.Effect.{Effect}
 use Rattle.calculus.specs.declared.network.Network.{Network}
+use Rattle.std.specs.Prelude.{Option, Some, None}
 use Rattle.calculus.specs.declared.network.NextHop.{NextHop}
-use Rattle.calculus.specs.declared.network.NextHop.TheVariants.{Exact, Default, Missing}
+use Rattle.calculus.specs.declared.network.NextHop.TheVariants.{Exact, Default}
 use Rattle.calculus.specs.declared.packet.Payload.{Payload}
 use Rattle.calculus.specs.declared.packet.Payload.TheVariants.{Req, Rep, Disc, Done, Data}
 use Rattle.calculus.specs.declared.packet.Header.{Header}
@@ -107,11 +108,11 @@ fewer_bare : (h : Option Header) → is_none h ≡ true → is_none (option_map 
 fewer_bare None e = refl
 fewer_bare (Some h) e = never e
 
-onward_named : (n : Network) (v : ℕ) (next : NextHop) (a : ℕ) (p : Packet) → LeadsToGiven n next → Named v (Wire a p)
+onward_named : (n : Network) (v : ℕ) (next : Option NextHop) (a : ℕ) (p : Packet) → LeadsToGiven n next → Named v (Wire a p)
     → EffectNamed v (onward next p)
-onward_named n v (Exact next) a p k o = ((given_node n next k, o.1, o.2), tt)
-onward_named n v (Default next) a p k o = ((given_node n next k, o.1, o.2), tt)
-onward_named n v Missing a p k o = (tt, tt)
+onward_named n v (Some (Exact next)) a p k o = ((given_node n next k, o.1, o.2), tt)
+onward_named n v (Some (Default next)) a p k o = ((given_node n next k, o.1, o.2), tt)
+onward_named n v None a p k o = (tt, tt)
 
 wire_named : (n : Network) (s : Session) (a : ℕ) (p : Packet) → LeadsToGiven n (next_hop n a (target p)) → Named s.server (Wire a p)
     → EffectNamed s.server (wire_rule (is_gateway n a) (next_hop n a) s a p)

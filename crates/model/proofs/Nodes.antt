@@ -3,14 +3,14 @@ use mathlib.Core.Path.{◌≡◌, refl}
 use mathlib.Core.Bool.{Bool, true, false, cond, ◌&&◌}
 use Prim.Native.Nat.{ℕ, ◌-◌}
 use native.Mathlib.Omega.{arith}
-use lib.Dec.{ltb}
+use Rattle.std.specs.Prelude.{Option, Some, None, is_some}
 use borrow.Author.Tests.{eqb-true}
 use lib.ListN.{get_or}
 use Rattle.calculus.proofs.Tests.{Way, is, isnt, way, both, never, either, bounds_within, within_bounds}
 use Rattle.calculus.specs.Number.{is_node, is_destination}
 use Rattle.calculus.specs.declared.network.Network.{Network}
 use Rattle.calculus.specs.declared.network.Node as declared
-use Rattle.model.specs.Network.{no_node, node_at, given, is_gate, is_default, route_to, is_routed, hop, next_hop}
+use Rattle.model.specs.Network.{node_at, given, is_gateway_node, is_default, route_to, hop, next_hop}
 use Rattle.model.specs.Requests.{destination_given, nodes_given}
 use Rattle.model.specs.SetUp.{LeadsToGiven, HoldsNetwork}
 use Rattle.model.specs.GivenBack.{IsPlace, Consistent}
@@ -24,9 +24,9 @@ Destination b = is_destination b ≡ true
 
 pub given_node : (n : Network) (a : ℕ) → given n a ≡ true → Node a
 unfolding node_at
-given_node n a = go (is_node a) (get_or n.nodes (a - 1) no_node)
+given_node n a = go (is_node a) (get_or n.nodes (a - 1) None)
   where
-    go : (b : Bool) (x : declared.Node) → (cond b x no_node).given ≡ true → b ≡ true
+    go : (b : Bool) (x : Option declared.Node) → is_some (cond b x None) ≡ true → b ≡ true
     go true x h = refl
     go false x h = never h
 
@@ -65,36 +65,24 @@ nodes_range n a b next e =
 
 -- ---- routes and gateways
 
-abbrev GivenGateway : declared.Node → Type 0
-GivenGateway x = is_gate x.kind ≡ true → x.given ≡ true
-
-pub empty_place : IsPlace no_node
-empty_place = record { has = refl; needs = refl; empty = λ e. refl }
-
-place_gateway : (x : declared.Node) → IsPlace x → GivenGateway x
-place_gateway x h g = go (way x.given)
-  where
-    go : Way x.given → x.given ≡ true
-    go (is e) = e
-    go (isnt e) = never (rw (h.empty e) at g)
+gateway_given : (x : Option declared.Node) → is_gateway_node x ≡ true → is_some x ≡ true
+gateway_given None e = never e
+gateway_given (Some x) e = refl
 
 -- whichever of the two routes is taken; the order in which they are asked is for `LookUp` and the listings to tell
-either_given : (n : Network) (exact default : ℕ) → (ltb 0 exact ≡ true → given n exact ≡ true) → (ltb 0 default ≡ true → given n default ≡ true)
-    → LeadsToGiven n (hop exact default)
-either_given n exact default i j = go (way (ltb 0 exact)) (way (ltb 0 default))
-  where
-    go : Way (ltb 0 exact) → Way (ltb 0 default) → LeadsToGiven n (hop exact default)
-    go (is e) (is f) = simp (e, f) (search (i e, j f))
-    go (is e) (isnt f) = simp (e, f) (i e)
-    go (isnt e) (is f) = simp (e, f) (j f)
-    go (isnt e) (isnt f) = simp (e, f) tt
+either_given : (n : Network) (exact default : Option ℕ) → ((next : ℕ) → exact ≡ Some next → given n next ≡ true)
+    → ((next : ℕ) → default ≡ Some next → given n next ≡ true) → LeadsToGiven n (hop exact default)
+either_given n (Some exact) (Some default) i j = search (i exact refl, j default refl)
+either_given n (Some exact) None i j = i exact refl
+either_given n None (Some default) i j = j default refl
+either_given n None None i j = tt
 
 module _ (n : Network) (h : Consistent n) where
-  pub place_is : (j : ℕ) → IsPlace (get_or n.nodes j no_node)
-  place_is j = all_get IsPlace n.nodes j no_node h.places empty_place
+  pub place_is : (j : ℕ) → IsPlace (get_or n.nodes j None)
+  place_is j = all_get IsPlace n.nodes j None h.places tt
 
-  leads : (a b : ℕ) → Node a → Destination b → is_routed n a b ≡ true → given n (route_to n a b) ≡ true
-  leads a b i j e = (nodes_given_lem n a b (route_to n a b) (h.routed a b i j e).0).by
+  leads : (a b next : ℕ) → Node a → Destination b → route_to n a b ≡ Some next → given n next ≡ true
+  leads a b next i j e = (nodes_given_lem n a b next (h.routed a b next i j e).0).by
 
   pub hop_given : (a b : ℕ) → LeadsToGiven n (next_hop n a b)
   unfolding next_hop
@@ -102,15 +90,9 @@ module _ (n : Network) (h : Consistent n) where
       either (LeadsToGiven n) (is_node a && is_node b)
       (λ e.
       let k = both (is_node a) (is_node b) e in
-      either_given n (route_to n a b) (route_to n a 0) (leads a b k.0 (node_destination b k.1)) (leads a 0 k.0 refl))
+      either_given n (route_to n a b) (route_to n a 0) (λ next. leads a b next k.0 (node_destination b k.1))
+      (λ next. leads a 0 next k.0 refl))
       (λ e. tt)
 
   pub network_holds : HoldsNetwork n
-  unfolding node_at
-  network_holds =
-      record {
-        routes = hop_given;
-        gateways = λ a.
-            either GivenGateway (is_node a)
-            (λ e. place_gateway _ (place_is (a - 1))) (λ e k. never k);
-      }
+  network_holds = record { routes = hop_given; gateways = λ a. gateway_given (node_at n a) }

@@ -5,11 +5,11 @@ use mathlib.Core.List.{List, [], ◌∷◌, ◌++◌, map, append-nil}
 use Prim.Native.Nat.{ℕ, zero, suc, ◌+◌, ◌<◌}
 use native.Mathlib.Nat.{add-zero, zero-add}
 use native.Mathlib.Omega.{arith}
-use lib.Dec.{ltb}
+use Rattle.std.specs.Prelude.{Option, Some, None, is_some}
 use borrow.Author.Tests.{lt-ltb}
 use lib.ListN.{length, get_or, length-append, get_or-append}
 use lib.Seq.{get_or-append-add}
-use Rattle.calculus.specs.Table.{entries_from, only_if}
+use Rattle.calculus.specs.Table.{entries_from, of_some}
 use Rattle.calculus.proofs.Tests.{never}
 use Rattle.calculus.specs.declared.network.Network.{Network}
 use Rattle.forms.specs.Bytes.{joined}
@@ -17,8 +17,7 @@ use Rattle.forms.specs.Text.{Form, form_line}
 use Rattle.forms.specs.Line.{line_length}
 use Rattle.forms.proofs.FormLines.{form_line_length}
 use Rattle.forms.proofs.Joined.{joined_append, lines_append}
-use Rattle.model.specs.Network.{no_node}
-use Rattle.model.specs.NetworkText.{node_form, route_form, network_text}
+use Rattle.model.specs.NetworkText.{node_entry, node_form, route_entry, route_form, network_text}
 use Rattle.model.specs.GivenBack.{Consistent}
 use Rattle.model.specs.Join.{together, lines_from, place_lines, is_there, union}
 use Rattle.model.specs.Lists.{All}
@@ -57,17 +56,17 @@ module _ (n : Network) where
   route_lines = lines_from route_form 0 n.routes
 
   pub node_line : (j : ℕ) → length n.nodes ≡ 32 → j < 32
-      → get_or (place_lines n) j [] ≡ joined (map form_line (node_form (1 + j) (get_or n.nodes j no_node)))
+      → get_or (place_lines n) j [] ≡ joined (map form_line (node_form (1 + j) (get_or n.nodes j None)))
   node_line j h w =
       get_or-append node_lines route_lines [] j (omega (arith, lines_length node_form 1 n.nodes))
-      ∙ lines_at node_form 1 n.nodes no_node j (omega arith)
+      ∙ lines_at node_form 1 n.nodes None j (omega arith)
 
   pub route_line : (p : ℕ) → length n.nodes ≡ 32 → p < length n.routes
-      → get_or (place_lines n) (32 + p) [] ≡ joined (map form_line (route_form p (get_or n.routes p 0)))
+      → get_or (place_lines n) (32 + p) [] ≡ joined (map form_line (route_form p (get_or n.routes p None)))
   route_line p h w =
       ap (λ (i : ℕ). get_or (place_lines n) (i + p) []) (sym (lines_length node_form 1 n.nodes ∙ h))
       ∙ get_or-append-add node_lines route_lines p []
-      ∙ (rw (zero-add p) at (lines_at route_form 0 n.routes 0 p w))
+      ∙ (rw (zero-add p) at (lines_at route_form 0 n.routes None p w))
 
   pub places_count : Consistent n → length (place_lines n) ≡ 1088
   places_count h =
@@ -84,19 +83,19 @@ module _ (n : Network) where
 
 -- ---- where a line is there
 
--- the line of the form f, if the test holds
-abbrev pub form_line_if : Bool → Form → List ℕ
-form_line_if b f = joined (map form_line (only_if b f))
+-- the line of an entry, if it is there, whose form is that which f gives
+abbrev pub entry_line : {A : Type 0} → (A → Form) → Option A → List ℕ
+entry_line f x = joined (map form_line (of_some f x))
 
-pub form_there : (b : Bool) (f : Form) → is_there (form_line_if b f) ≡ b
-form_there true f = lt-ltb 0 (length (form_line_if true f)) (simp length-append (omega arith))
-form_there false f = refl
+pub entry_there : {A : Type 0} (f : A → Form) (x : Option A) → is_there (entry_line f x) ≡ is_some x
+entry_there f None = refl
+entry_there f (Some x) = lt-ltb 0 (length (entry_line f (Some x))) (simp length-append (omega arith))
 
-pub node_there : (n : Network) (j : ℕ) → Consistent n → j < 32 → is_there (get_or (place_lines n) j []) ≡ (get_or n.nodes j no_node).given
-node_there n j h w = ap is_there (node_line n j h.nodes w) ∙ form_there (get_or n.nodes j no_node).given _
+pub node_there : (n : Network) (j : ℕ) → Consistent n → j < 32 → is_there (get_or (place_lines n) j []) ≡ is_some (get_or n.nodes j None)
+node_there n j h w = ap is_there (node_line n j h.nodes w) ∙ entry_there (node_entry (1 + j)) (get_or n.nodes j None)
 
-pub route_there : (n : Network) (p : ℕ) → Consistent n → p < 1056 → is_there (get_or (place_lines n) (32 + p) []) ≡ ltb 0 (get_or n.routes p 0)
-route_there n p h w = ap is_there (route_line n p h.nodes (omega (arith, h.routes))) ∙ form_there (ltb 0 (get_or n.routes p 0)) _
+pub route_there : (n : Network) (p : ℕ) → Consistent n → p < 1056 → is_there (get_or (place_lines n) (32 + p) []) ≡ is_some (get_or n.routes p None)
+route_there n p h w = ap is_there (route_line n p h.nodes (omega (arith, h.routes))) ∙ entry_there (route_entry p) (get_or n.routes p None)
 
 -- ---- two networks
 
@@ -120,8 +119,8 @@ lines_together {A} f isGiven there k (x ∷ l) (y ∷ m) =
 
 pub union_places : (n m : Network) → Consistent n → Consistent m → place_lines (union n m) ≡ together first_of (place_lines n) (place_lines m)
 union_places n m h g =
-    let nodes = lines_together node_form (λ x. x.given) (λ a x. form_there x.given _) 1 n.nodes m.nodes in
-    let routes = lines_together route_form (λ x. ltb 0 x) (λ p x. form_there (ltb 0 x) _) 0 n.routes m.routes in
+    let nodes = lines_together node_form is_some (λ a x. entry_there (node_entry a) x) 1 n.nodes m.nodes in
+    let routes = lines_together route_form is_some (λ p x. entry_there (route_entry p) x) 0 n.routes m.routes in
     let same : length (node_lines n) ≡ length (node_lines m) = lines_length node_form 1 n.nodes ∙ h.nodes ∙ sym g.nodes ∙ sym (lines_length node_form 1 m.nodes) in
     ap (λ (l : List (List ℕ)). l ++ route_lines (union n m)) nodes ∙ ap (λ (l : List (List ℕ)). together first_of (node_lines n) (node_lines m) ++ l) routes
     ∙ sym (together_append first_of (node_lines n) (route_lines n) (node_lines m) (route_lines m) same)
@@ -132,9 +131,9 @@ union_places n m h g =
 abbrev pub IsLine : List ℕ → Type 0
 IsLine x = is_there x ≡ true → (rest : List ℕ) → line_length (x ++ rest) + 1 ≡ length x
 
-form_is_line : (b : Bool) (f : Form) → IsLine (form_line_if b f)
-form_is_line true f = rw (append-nil (form_line f)) λ e. form_line_length f
-form_is_line false f = never
+entry_is_line : {A : Type 0} (f : A → Form) (x : Option A) → IsLine (entry_line f x)
+entry_is_line f None = never
+entry_is_line f (Some x) = rw (append-nil (form_line (f x))) λ e. form_line_length (f x)
 
 lines_are_lines : {A : Type 0} (f : ℕ → A → List Form) → ((k : ℕ) (x : A) → IsLine (joined (map form_line (f k x))))
     → (k : ℕ) (l : List A) → All IsLine (lines_from f k l)
@@ -144,5 +143,5 @@ lines_are_lines f each k (x ∷ l) = (each k x, lines_are_lines f each (k + 1) l
 
 pub places_lines : (n : Network) → All IsLine (place_lines n)
 places_lines n =
-    all_append IsLine (node_lines n) (route_lines n) (lines_are_lines node_form (λ a x. form_is_line x.given _) 1 n.nodes)
-    (lines_are_lines route_form (λ p next. form_is_line (ltb 0 next) _) 0 n.routes)
+    all_append IsLine (node_lines n) (route_lines n) (lines_are_lines node_form (λ a x. entry_is_line (node_entry a) x) 1 n.nodes)
+    (lines_are_lines route_form (λ p next. entry_is_line (route_entry p) next) 0 n.routes)

@@ -10,8 +10,9 @@ use borrow.Author.Tests.{eqb-true, eq-eqb, ne_eqb}
 use Rattle.std.specs.Prelude.{None}
 use Rattle.calculus.proofs.Tests.{never}
 use Rattle.calculus.specs.declared.network.Network.{Network}
+use Rattle.std.specs.Prelude.{Option, Some, None}
 use Rattle.calculus.specs.declared.network.NextHop.{NextHop}
-use Rattle.calculus.specs.declared.network.NextHop.TheVariants.{Exact, Default, Missing}
+use Rattle.calculus.specs.declared.network.NextHop.TheVariants.{Exact, Default}
 use Rattle.calculus.specs.declared.packet.Payload.TheVariants.{Disc, Done}
 use Rattle.calculus.specs.declared.packet.Packet.{Packet}
 use Rattle.calculus.specs.declared.session.Row.{Row}
@@ -26,10 +27,10 @@ use Rattle.model.proofs.Match.{OfPeers, of_newest, none_newest}
 -- ---- the points
 
 -- the next node, or 0, from where no node is met
-abbrev pub next_node : NextHop → ℕ
-next_node (Exact next) = next
-next_node (Default next) = next
-next_node Missing = 0
+abbrev pub next_node : Option NextHop → ℕ
+next_node (Some (Exact next)) = next
+next_node (Some (Default next)) = next
+next_node None = 0
 
 -- the node that discovers a Disc(p) for d with h hops left at a, or 0
 unfoldable pub walk : Network → ℕ → ℕ → ℕ → ℕ → ℕ

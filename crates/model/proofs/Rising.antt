@@ -6,12 +6,13 @@ use Prim.Native.Nat.{ℕ, ◌+◌, ◌≤◌, ◌<◌}
 use native.Mathlib.Omega.{arith}
 use lib.Dec.{ltb, eqb}
 use borrow.Author.Tests.{eq-eqb, ltb-true, ltb-false, eqb-true}
-use Rattle.calculus.specs.Table.{entries_from, only_if}
+use Rattle.std.specs.Prelude.{Option, Some, None}
+use Rattle.calculus.specs.Table.{entries_from, only_if, of_some}
 use Rattle.calculus.proofs.Table.{perhaps}
 use Rattle.calculus.proofs.Tests.{Way, is, isnt, way, never}
 use Rattle.model.specs.Lists.{All, before, Rising}
 use Rattle.model.proofs.Lists.{all_append}
-use Rattle.model.proofs.Tables.{only_all, entries_all}
+use Rattle.model.proofs.Tables.{only_all, some_all, entries_all}
 
 -- ---- two keys
 
@@ -90,3 +91,16 @@ module _ {A : Type 0} (key : A → List ℕ) where
       let behind = entries_all (Before (f k x)) (λ i y. only_if (b y) (f i y)) (k + 1) l
       (λ j y i w. only_all (Before (f k x)) (b y) (λ e. up k j x y (omega arith))) in
       perhaps (Rising key) (b x) (λ e. (behind, more)) (λ e. more)
+
+  -- so of entries that may be missing
+  pub rising_somes : {B : Type 0} (f : ℕ → B → A) → ((i j : ℕ) (x y : B) → i < j → Before (f i x) (f j y))
+      → (k : ℕ) (l : List (Option B)) → Rising key (entries_from (λ i x. of_some (f i) x) k l)
+  unfolding entries_from
+  rising_somes f up k [] = tt
+  rising_somes f up k (None ∷ l) = rising_somes f up (k + 1) l
+  rising_somes f up k (Some x ∷ l) =
+      (
+        entries_all (Before (f k x)) (λ i y. of_some (f i) y) (k + 1) l
+        (λ j y i w. some_all (Before (f k x)) (f j) y (λ z. up k j x z (omega arith))),
+        rising_somes f up (k + 1) l,
+      )

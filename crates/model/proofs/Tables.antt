@@ -6,7 +6,8 @@ use Prim.Native.Nat.{ℕ, zero, suc, ◌+◌, ◌*◌, ◌≤◌, ◌<◌}
 use native.Mathlib.Nat.{add-zero, mul-suc}
 use native.Mathlib.Omega.{arith}
 use lib.ListN.{length, get_or, length-append}
-use Rattle.calculus.specs.Table.{entries_from, only_if}
+use Rattle.std.specs.Prelude.{Option, Some, None}
+use Rattle.calculus.specs.Table.{entries_from, only_if, of_some}
 use Rattle.forms.specs.Bytes.{joined}
 use Rattle.forms.proofs.Joined.{lines_append}
 use Rattle.model.specs.Lists.{All}
@@ -15,6 +16,10 @@ use Rattle.model.proofs.Lists.{all_append}
 pub only_all : {A : Type 0} (P : A → Type 0) (b : Bool) {x : A} → (b ≡ true → P x) → All P (only_if b x)
 only_all P true h = (h refl, tt)
 only_all P false h = tt
+
+pub some_all : {A B : Type 0} (P : B → Type 0) (f : A → B) (x : Option A) → ((y : A) → P (f y)) → All P (of_some f x)
+some_all P f None h = tt
+some_all P f (Some y) h = (h y, tt)
 
 -- of all that the entries give
 pub entries_all : {A B : Type 0} (P : B → Type 0) (f : ℕ → A → List B) (k : ℕ) (l : List A)
@@ -48,8 +53,6 @@ entries_width line most f k (x ∷ l) d each =
     rw (lines_append line (f k x) (entries_from f (k + 1) l), length-append (joined (map line (f k x))) (joined (map line (entries_from f (k + 1) l))))
     (omega (arith, more, first))
 
--- a line that is there only if the test holds
-pub only_width : {A : Type 0} (line : A → List ℕ) (most : ℕ) (b : Bool) (x : A) → (b ≡ true → length (line x) ≤ most)
-    → length (joined (map line (only_if b x))) ≤ most
-only_width line most true x h = omega (arith, h refl, length-append (line x) [])
-only_width line most false x h = omega arith
+-- a line alone
+pub one_width : {A : Type 0} (line : A → List ℕ) (most : ℕ) (x : A) → length (line x) ≤ most → length (joined (map line (x ∷ []))) ≤ most
+one_width line most x h = omega (arith, h, length-append (line x) [])

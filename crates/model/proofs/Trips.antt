@@ -10,6 +10,7 @@ use Rattle.calculus.proofs.Tests.{never, either}
 use Rattle.calculus.specs.declared.answer.Loss.{Loss}
 use Rattle.calculus.specs.declared.effect.Effect.{Effect}
 use Rattle.calculus.specs.declared.network.Network.{Network}
+use Rattle.std.specs.Prelude.{Option}
 use Rattle.calculus.specs.declared.network.NextHop.{NextHop}
 use Rattle.calculus.specs.declared.packet.Payload.{Payload}
 use Rattle.calculus.specs.declared.packet.Packet.{Packet}
@@ -41,7 +42,7 @@ trip_some (arrived h) = omega arith
 pub data Travels (x z : ℕ) (y : Payload) (j : ℕ) : Effect → Type 0 where
   gone : (l : Loss) → Travels x z y j (lost l)
   further : (k : ℕ) (i : Item) → Trip x z y k i → k < j → Travels x z y j (writes i)
-  moves : (next : NextHop) (h : ℕ) → h + 2 < j → Travels x z y j (onward next (bare_with x z y h))
+  moves : (next : Option NextHop) (h : ℕ) → h + 2 < j → Travels x z y j (onward next (bare_with x z y h))
   comes : Travels x z y j (received z x y)
 
 module _ (n : Network) (t : Part) (x z : ℕ) (y : Payload)

@@ -1,5 +1,5 @@
 -- The network's text gives that network again, and no other (document 02, #101). Proved in proofs/GivenBack. Assumes nothing.
-use Rattle.std.specs.Prelude.{ℕ, ◌≤◌, ◌≡◌, true, false, cond, List, [], ◌∷◌, map, ◌↔◌, ltb, length}
+use Rattle.std.specs.Prelude.{ℕ, ◌≤◌, ◌≡◌, true, false, cond, List, [], ◌∷◌, map, Option, Some, None, ◌↔◌, ltb, length}
 use Rattle.calculus.specs.Number.{is_node, is_destination}
 use Rattle.calculus.specs.declared.answer.Answer.TheVariants.{Ok}
 use Rattle.calculus.specs.declared.network.Network.{Network}
@@ -8,7 +8,7 @@ use Rattle.calculus.specs.declared.state.State.{State}
 use Rattle.forms.specs.Text.{Form, node, route, «open», step, send, close, show, net, take_down, text}
 use Rattle.forms.specs.Line.{lines}
 use Rattle.model.specs.Lists.{All, Rising}
-use Rattle.model.specs.Network.{no_node, route_to, is_routed}
+use Rattle.model.specs.Network.{route_to}
 use Rattle.model.specs.NetworkText.{network_forms, network_lines, network_text}
 use Rattle.model.specs.State.{fresh}
 use Rattle.model.specs.Requests.{accepted, nodes_given, leads_back}
@@ -17,11 +17,15 @@ use Rattle.model.specs.Texts.{after_lines}
 
 -- ---- the networks that calls leave
 
--- a place of the nodes' table: both its sets have 64 places, and where no node was given it is empty
-pub record IsPlace (x : Node) : Type 0 where
+-- a node: both its sets have 64 places
+pub record IsNode (x : Node) : Type 0 where
   pub has : length x.has ≡ 64
   pub needs : length x.needs ≡ 64
-  pub empty : x.given ≡ false → x ≡ no_node
+
+-- a place of the nodes' table: a node, where one was given
+abbrev pub IsPlace : Option Node → Type 0
+IsPlace None = Unit
+IsPlace (Some x) = IsNode x
 
 -- refusals 4 and 8 let the route from a for b to next pass
 abbrev pub Passes : Network → ℕ → ℕ → ℕ → Type 0
@@ -32,7 +36,7 @@ pub record Consistent (n : Network) : Type 0 where
   pub nodes : length n.nodes ≡ 32
   pub routes : length n.routes ≡ 1056
   pub places : All IsPlace n.nodes
-  pub routed : (a b : ℕ) → is_node a ≡ true → is_destination b ≡ true → is_routed n a b ≡ true → Passes n a b (route_to n a b)
+  pub routed : (a b next : ℕ) → is_node a ≡ true → is_destination b ≡ true → route_to n a b ≡ Some next → Passes n a b next
 
 -- ---- the text's order
 

@@ -1,11 +1,11 @@
 -- Two networks made one: what a join of two files writes (document 02, #106). `joins::join` cites it; its promises are in Union. Assumes nothing.
 use Rattle.std.specs.Prelude.{ℕ, ◌+◌, Bool, true, false, cond, not, ◌&&◌, ◌||◌, List, [], ◌∷◌, ◌++◌, map, ltb, eqb, length}
+use Rattle.std.specs.Prelude as maybe
 use Rattle.std.proofs.Math.Option.{Option, none, some}
 use Rattle.calculus.specs.declared.answer.Answer.TheVariants.{No}
 use Rattle.calculus.specs.declared.answer.Refusal.{Refusal}
 use Rattle.calculus.specs.declared.answer.Refusal.TheVariants.{Short, Clash, Unsorted}
 use Rattle.calculus.specs.declared.network.Network.{Network}
-use Rattle.calculus.specs.declared.network.Node.{Node}
 use Rattle.forms.specs.Bytes.{joined}
 use Rattle.forms.specs.Text.{Form, form_line}
 use Rattle.forms.specs.Answer.{answer_text}
@@ -80,17 +80,13 @@ differ x y = (is_there x && is_there y) && not (same_text x y)
 abbrev pub clash : Network → Network → Bool
 clash n m = somewhere differ (place_lines n) (place_lines m)
 
--- a node of the first network, else of the second
-abbrev pub either_node : Node → Node → Node
-either_node x y = cond x.given x y
-
--- so of a route, by its next node
-abbrev pub either_route : ℕ → ℕ → ℕ
-either_route x y = cond (ltb 0 x) x y
+-- an entry of the first network, that is a node or the next node of a route, else of the second
+abbrev pub either_entry : {A : Type 0} → maybe.Option A → maybe.Option A → maybe.Option A
+either_entry x y = cond (maybe.is_some x) x y
 
 -- "every node and route of either"
 abbrev pub union : Network → Network → Network
-union n m = record { nodes = together either_node n.nodes m.nodes; routes = together either_route n.routes m.routes }
+union n m = record { nodes = together either_entry n.nodes m.nodes; routes = together either_entry n.routes m.routes }
 
 -- ---- the join
 

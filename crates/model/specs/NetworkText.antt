@@ -1,6 +1,6 @@
 -- The network as text: what `(net)` writes (document 02, #101). Its promises are in GivenBack. Assumes nothing.
-use Rattle.std.specs.Prelude.{ℕ, List, ◌++◌, map, ltb}
-use Rattle.calculus.specs.Table.{entries_from, only_if}
+use Rattle.std.specs.Prelude.{ℕ, List, ◌++◌, map, Option}
+use Rattle.calculus.specs.Table.{entries_from, of_some}
 use Rattle.calculus.specs.declared.network.Network.{Network}
 use Rattle.calculus.specs.declared.network.Node.{Node}
 use Rattle.forms.specs.Bytes.{joined}
@@ -8,13 +8,21 @@ use Rattle.forms.specs.Text.{Form, route, form_line}
 use Rattle.forms.specs.Request.{node_of}
 use Rattle.model.specs.Network.{place_at, place_destination}
 
--- the form that gives node a, if it was given
-abbrev pub node_form : ℕ → Node → List Form
-node_form a x = only_if x.given (node_of a x.kind x.has x.needs)
+-- the form that gives node a
+abbrev pub node_entry : ℕ → Node → Form
+node_entry a x = node_of a x.kind x.has x.needs
 
--- the form that gives the route at place p of the table, which leads to next, if there is one; a default is its node's first
-abbrev pub route_form : ℕ → ℕ → List Form
-route_form p next = only_if (ltb 0 next) (route (place_at p) (place_destination p) next)
+-- if it was given
+abbrev pub node_form : ℕ → Option Node → List Form
+node_form a x = of_some (node_entry a) x
+
+-- the form that gives the route at place p of the table, which leads to next; a default is its node's first
+abbrev pub route_entry : ℕ → ℕ → Form
+route_entry p next = route (place_at p) (place_destination p) next
+
+-- if there is one
+abbrev pub route_form : ℕ → Option ℕ → List Form
+route_form p next = of_some (route_entry p) next
 
 -- "in its own forms": "nodes rising, then routes by at, then by destination"
 abbrev pub network_forms : Network → List Form

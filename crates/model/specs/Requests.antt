@@ -1,5 +1,5 @@
 -- What each request answers, and the state that it leaves; its refusals, in document 01's order. Assumes nothing.
-use Rattle.std.specs.Prelude.{ℕ, ◌+◌, ◌-◌, Bool, true, false, cond, not, ◌&&◌, ◌||◌, List, [], ◌∷◌, ◌++◌, map, leb, ltb, eqb, length, set, take, Option, Some, None}
+use Rattle.std.specs.Prelude.{ℕ, ◌+◌, ◌-◌, Bool, true, false, cond, not, ◌&&◌, ◌||◌, List, [], ◌∷◌, ◌++◌, map, leb, ltb, eqb, length, set, take, Option, Some, None, get_or}
 use Rattle.std.proofs.lemmas.List.Edits.{sets}
 use Rattle.calculus.specs.declared.answer.Answer.{Answer}
 use Rattle.calculus.specs.declared.answer.Answer.TheVariants.{Ok, Made, Closed, No}
@@ -58,10 +58,10 @@ accepted s n =
 
 abbrev pub with_node : Network → ℕ → Kind → List Bool → List Bool → Network
 with_node n a k has needs =
-    record { nodes = set n.nodes (a - 1) (record { given = true; kind = k; has = has; needs = needs }); routes = n.routes }
+    record { nodes = set n.nodes (a - 1) (Some (record { kind = k; has = has; needs = needs })); routes = n.routes }
 
 abbrev pub with_route : Network → ℕ → ℕ → ℕ → Network
-with_route n a b next = record { nodes = n.nodes; routes = set n.routes (route_place a b) next }
+with_route n a b next = record { nodes = n.nodes; routes = set n.routes (route_place a b) (Some next) }
 
 -- node 5, 3
 abbrev pub node_checks : Bool → Network → ℕ → List Check

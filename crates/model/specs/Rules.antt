@@ -8,7 +8,7 @@ use Rattle.calculus.specs.declared.effect.Wait.{Wait}
 use Rattle.calculus.specs.declared.effect.Wait.TheVariants.{Discovery, Establishment}
 use Rattle.calculus.specs.declared.effect.Effect.{Effect}
 use Rattle.calculus.specs.declared.network.NextHop.{NextHop}
-use Rattle.calculus.specs.declared.network.NextHop.TheVariants.{Exact, Default, Missing}
+use Rattle.calculus.specs.declared.network.NextHop.TheVariants.{Exact, Default}
 use Rattle.calculus.specs.declared.packet.Payload.{Payload}
 use Rattle.calculus.specs.declared.packet.Payload.TheVariants.{Req, Rep, Disc, Done, Data}
 use Rattle.calculus.specs.declared.packet.Header.{Header}
@@ -85,13 +85,13 @@ abbrev pub unprotected : Bool → Packet → Bool
 unprotected gateway p = gateway && (is_none p.header && is_data_or_done p.payload)
 
 -- the last two cases, by what the look-up says: "Lost 3 is left for neither"
-abbrev pub onward : NextHop → Packet → Effect
-onward (Exact next) p = writes (Wire next p)
-onward (Default next) p = only (WroteByDefault (Wire next p))
-onward Missing p = lost NoRoute
+abbrev pub onward : Option NextHop → Packet → Effect
+onward (Some (Exact next)) p = writes (Wire next p)
+onward (Some (Default next)) p = only (WroteByDefault (Wire next p))
+onward None p = lost NoRoute
 
 -- wire(a, packet, h), where h is the count in use and `look` gives a's next hop for a node: "the first that fits"
-unfoldable pub wire_rule : Bool → (ℕ → NextHop) → Session → ℕ → Packet → Effect
+unfoldable pub wire_rule : Bool → (ℕ → Option NextHop) → Session → ℕ → Packet → Effect
 wire_rule gateway look s a p =
     cond (discovers gateway s.server a p.payload)
     (cond (is_exhausted s) (lost Exhausted) (begin a (last_point p.payload) (s.begun + 1)))

@@ -7,7 +7,7 @@ use Rattle.calculus.specs.declared.effect.Wait.TheVariants.{Discovery, Establish
 use Rattle.calculus.specs.declared.effect.Effect.{Effect}
 use Rattle.calculus.specs.declared.network.Network.{Network}
 use Rattle.calculus.specs.declared.network.NextHop.{NextHop}
-use Rattle.calculus.specs.declared.network.NextHop.TheVariants.{Exact, Default, Missing}
+use Rattle.calculus.specs.declared.network.NextHop.TheVariants.{Exact, Default}
 use Rattle.calculus.specs.declared.packet.Payload.{Payload}
 use Rattle.calculus.specs.declared.packet.Payload.TheVariants.{Req, Rep, Disc, Done, Data}
 use Rattle.calculus.specs.declared.packet.Header.{Header}
@@ -182,10 +182,10 @@ pub record Holds (s : State) (t : Part) : Type 0 where
   pub few_users : (out : Bool) (a q : ℕ) → users_of s.users out a q ≤ 256
 
 -- the next node, if the look-up gives one, was given
-abbrev pub LeadsToGiven : Network → NextHop → Type 0
-LeadsToGiven n (Exact next) = given n next ≡ true
-LeadsToGiven n (Default next) = given n next ≡ true
-LeadsToGiven n Missing = Unit
+abbrev pub LeadsToGiven : Network → Option NextHop → Type 0
+LeadsToGiven n (Some (Exact next)) = given n next ≡ true
+LeadsToGiven n (Some (Default next)) = given n next ≡ true
+LeadsToGiven n None = Unit
 
 -- of the network n; it follows from `Consistent` of GivenBack, and is what the rules rest on
 pub record HoldsNetwork (n : Network) : Type 0 where

@@ -1,5 +1,5 @@
 -- The state: fresh, a session's part taken out and put back, and an effect applied to a part. Assumes nothing.
-use Rattle.std.specs.Prelude.{ℕ, ◌+◌, ◌*◌, ◌-◌, Bool, true, false, List, [], ◌∷◌, eqb, length, get_or, set, take, drop, replicate, Option, Some, None, is_none, option_map, option_and_then, position}
+use Rattle.std.specs.Prelude.{ℕ, ◌+◌, ◌*◌, ◌-◌, Bool, true, false, List, [], ◌∷◌, eqb, length, get_or, set, take, drop, replicate, Option, Some, None, is_none, option_map, option_and_then, position, not, ◌&&◌}
 use Rattle.std.proofs.lemmas.List.Edits.{sets}
 use Rattle.std.proofs.Math.Seq.{paste}
 use Rattle.calculus.specs.declared.answer.Answer as answer
@@ -17,6 +17,7 @@ use Rattle.calculus.specs.declared.state.Part.{Part}
 use Rattle.calculus.specs.declared.state.State.{State}
 use Rattle.model.specs.Network.{no_node}
 use Rattle.model.specs.Item.{vacant, is_that_wait, of_item, slot_at}
+use Rattle.model.specs.Lists.{place}
 use Rattle.model.specs.Row.{no_peers}
 
 -- ---- fresh
@@ -36,7 +37,7 @@ abbrev pub fresh : State
 fresh =
     record {
       opened = false;
-      network = record { nodes = replicate 32 no_node; routes = replicate 1056 0 };
+      network = record { nodes = replicate 32 None; routes = replicate 1056 None };
       sessions = replicate 8 blank_session;
       items = replicate 128 None;
       rows = replicate 256 blank_row;

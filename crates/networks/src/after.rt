@@ -21,19 +21,14 @@ fn store<T: Copy>(table: &mut [T], at: usize, x: T)
 fn with_node(n: &mut Network, a: u8, kind: Kind, has: [bool; 64], needs: [bool; 64])
     ensures { n.new ≡ spec.with_node n.old a kind has needs }
 {
-    let node = Node {
-        given: true,
-        kind,
-        has,
-        needs,
-    };
-    store(&mut n.nodes, pred(a) as usize, node);
+    let node = Node { kind, has, needs };
+    store(&mut n.nodes, pred(a) as usize, Some(node));
 }
 
 fn with_route(n: &mut Network, a: u8, b: u8, hop: u8)
     ensures { n.new ≡ spec.with_route n.old a b hop }
 {
-    store(&mut n.routes, route_place(a, b), hop);
+    store(&mut n.routes, route_place(a, b), Some(hop));
 }
 
 // The network with what a node or route call gives.

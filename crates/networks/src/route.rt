@@ -30,7 +30,7 @@ fn is_same(a: u8, b: u8, hop: u8) -> bool
 fn has_route(n: &Network, a: u8, b: u8) -> bool
     ensures { result ≡ network.is_routed n.now a b }
 {
-    0 < route_to(n, a, b)
+    route_to(n, a, b).is_some()
 }
 
 // route a b hop: refusals 5, 4, 8, 3.

@@ -12,7 +12,7 @@ use answers::report::{GivenNode, GivenRoute};
 use calculus::network::{Network, Node};
 
 // A node's line, if it was given.
-impl Entry for Node {
+impl Entry for Option<Node> {
     ghost text = { λ p x. joined (map form_line (node_form (1 + p) x)) };
 
     ghost PLACES = { 32 };
@@ -20,18 +20,15 @@ impl Entry for Node {
     ghost LONGEST = { 400 };
 
     fn put(&self, p: usize, out: &mut Output<'_>) {
-        if self.given {
+        if let Some(node) = *self {
             let number = p as u8 + 1;
-            out.write(&GivenNode {
-                number,
-                node: *self,
-            });
+            out.write(&GivenNode { number, node });
         }
     }
 }
 
 // The line of the route at a place, if there is one.
-impl Entry for u8 {
+impl Entry for Option<u8> {
     ghost text = { λ p next. joined (map form_line (route_form p next)) };
 
     ghost PLACES = { 1056 };
@@ -39,13 +36,13 @@ impl Entry for u8 {
     ghost LONGEST = { 32 };
 
     fn put(&self, p: usize, out: &mut Output<'_>) {
-        if 0 < *self {
+        if let Some(next) = *self {
             let at = (p / 33 + 1) as u8;
             let destination = (p % 33) as u8;
             out.write(&GivenRoute {
                 at,
                 destination,
-                next: *self,
+                next,
             });
         }
     }

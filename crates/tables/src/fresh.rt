@@ -8,12 +8,12 @@ use calculus::session::{Session, Stage};
 use calculus::state::State;
 use lookups::blank::blank_row;
 use lookups::network::no_node;
+use lookups::blank::{blank_row, blank_slot};
 
 // No node, no route, no users; every session unused.
 pub fn fresh() -> State
     ensures { result ≡ spec.fresh }
 {
-    let node = no_node();
     let session = Session {
         stage: Stage::Unused,
         client: 0,
@@ -26,8 +26,8 @@ pub fn fresh() -> State
     State {
         opened: false,
         network: Network {
-            nodes: [node; 32],
-            routes: [0; 1056],
+            nodes: [None; 32],
+            routes: [None; 1056],
         },
         sessions: [session; 8],
         items: [None; 128],
