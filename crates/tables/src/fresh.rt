@@ -7,8 +7,6 @@ use calculus::number::ItemNumber;
 use calculus::session::{Session, Stage};
 use calculus::state::State;
 use lookups::blank::blank_row;
-use lookups::network::no_node;
-use lookups::blank::{blank_row, blank_slot};
 
 // No node, no route, no users; every session unused.
 pub fn fresh() -> State
