@@ -12,7 +12,7 @@ use borrow.Author.Tests.{eq-eqb, ne_eqb, le-leb, lt-leb}
 use Rattle.std.specs.Prelude.{Option, Some, None}
 use Rattle.calculus.proofs.Tests.{within_bounds, either}
 use Rattle.calculus.specs.declared.effect.Wait.{Wait}
-use Rattle.calculus.specs.declared.effect.Wait.TheVariants.{Discovery, Establishment}
+use Rattle.calculus.specs.declared.effect.Wait.TheVariants.{Establishment}
 use Rattle.calculus.specs.declared.packet.Payload.{Payload}
 use Rattle.calculus.specs.declared.packet.Payload.TheVariants.{Req, Rep, Disc, Done, Data}
 use Rattle.calculus.specs.declared.packet.Packet.{Packet}
