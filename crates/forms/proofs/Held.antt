@@ -9,7 +9,7 @@ use borrow.Author.Tests.{eqb-true, eq-eqb, ne_eqb}
 use lib.Dec.{eqb}
 use lib.ListN.{length, take}
 use lib.Seq.{length-take-le}
-use Rattle.std.specs.Prelude as rust
+use Rattle.std.specs.Prelude as std
 use Rattle.std.specs.Prelude.{Some, None, Ok}
 use Rattle.calculus.specs.declared.request.Request.{Request}
 use Rattle.calculus.proofs.Tests.{Way, is, isnt, way}
@@ -26,9 +26,9 @@ use Rattle.forms.proofs.Lists.{firsts_all}
 firsts_take : (n : ℕ) (v : List ℕ) → length v ≡ 3 → firsts n v ≡ take n v
 firsts_take n v h = ap (take n) (firsts_all v 3 h (omega arith))
 
-module _ {l before after : List ℕ} {r : rust.Option ListRead} (f : Filled l before r after) where
+module _ {l before after : List ℕ} {r : std.Option ListRead} (f : Filled l before r after) where
   -- what is known of the list, by what was read
-  filled_list : {size : ℕ} {s : rust.Option ListRead} → length before ≡ size → r ≡ s → list 10 size 0 l ≡ list_in after s
+  filled_list : {size : ℕ} {s : std.Option ListRead} → length before ≡ size → r ≡ s → list 10 size 0 l ≡ list_in after s
   filled_list h e = rw (← h, ← e) (sym f.same)
 
   module _ {x : ListRead} (e : r ≡ Some x) where
@@ -57,7 +57,7 @@ module _ {l before after : List ℕ} {r : rust.Option ListRead} (f : Filled l be
       pub fields_more : x.count ≡ n → (x.used ≡ length l → ⊥) → none ≡ fields 10 n l
       fields_more p q = rw (eq-eqb x.count n p, ne_eqb x.used (length l) q) at (fields_found n h g)
 
-    pub gathered_list : {t : rust.Option (List Bool)} → length before ≡ 200 → t ≡ set_of (take x.count after)
+    pub gathered_list : {t : std.Option (List Bool)} → length before ≡ 200 → t ≡ set_of (take x.count after)
         → Some (record { set = t; used = x.used }) ≡ gathered (list 10 200 0 l)
     gathered_list h q = rw (filled_list h e, q)
 

@@ -9,7 +9,7 @@ use borrow.Author.Tests.{eq-eqb, ne_eqb, eqb-true, eqb-false}
 use lib.Dec.{eqb}
 use lib.ListN.{length, get_or, take, drop, set, length-drop, drop_of_length-le}
 use lib.Seq.{drop-cons}
-use Rattle.std.specs.Prelude as rust
+use Rattle.std.specs.Prelude as std
 use Rattle.std.specs.Prelude.{Some, None, Result, Ok, Err}
 use Rattle.calculus.specs.Number.{within, is_node}
 use Rattle.calculus.specs.declared.answer.Refusal.{Refusal}
@@ -99,8 +99,8 @@ has_asked_lem a k l = go (list 10 200 0 l)
         (needs_asked_lem a k has (drop 7 (drop j l)) (list 10 200 0 (drop 7 (drop j l))))
 
 -- what is read, by the credentials g that were read on the way
-module _ (a : ℕ) (k : Kind) (l : List ℕ) {g : rust.Option Credentials} {r : Result Request Refusal} (e : g ≡ gathered (list 10 200 0 l)) where
-  pub needs_read : (has : rust.Option (List Bool)) → r ≡ needs_by a k has l g → r ≡ needs_asked a k has l
+module _ (a : ℕ) (k : Kind) (l : List ℕ) {g : std.Option Credentials} {r : Result Request Refusal} (e : g ≡ gathered (list 10 200 0 l)) where
+  pub needs_read : (has : std.Option (List Bool)) → r ≡ needs_by a k has l g → r ≡ needs_asked a k has l
   needs_read has h = h ∙ ap (needs_by a k has l) e
 
   pub has_read : r ≡ has_asked a k l g → r ≡ asked (has_at 10 200 a k l)

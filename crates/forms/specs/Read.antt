@@ -1,6 +1,6 @@
 -- A line read as a form, as a definition that computes. What it reads is stated in Exact. Assumes nothing.
 use Rattle.std.specs.Prelude.{ℕ, zero, suc, ◌+◌, ◌-◌, ◌*◌, Bool, true, false, cond, ◌&&◌, List, [], ◌∷◌, Some, None, ltb, leb, eqb, length, get_or, drop}
-use Rattle.std.specs.Prelude as rust
+use Rattle.std.specs.Prelude as std
 use Rattle.std.proofs.Math.Option.{Option, none, some}
 use Rattle.calculus.specs.declared.network.Kind.{Kind}
 use Rattle.calculus.specs.declared.network.Kind.TheVariants.{Host, Gateway}
@@ -18,14 +18,14 @@ abbrev pub is_digit : ℕ → Bool
 is_digit c = leb 48 c && leb c 57
 
 -- the rest of a number of at most `most` digits, of which k are read, with the value v
-unfoldable pub scan : ℕ → ℕ → ℕ → List ℕ → rust.Option (ℕ × ℕ)
+unfoldable pub scan : ℕ → ℕ → ℕ → List ℕ → std.Option (ℕ × ℕ)
 scan most v k [] = Some (v, k)
 scan most v k (c ∷ l) =
     let more = scan most (v * 10 + (c - 48)) (k + 1) l in
     cond (is_digit c) (cond (ltb k most) more None) (Some (v, k))
 
 -- the number of at most `most` digits at the front of l, and its digits' count: 0 alone, or a first digit that is not 0
-unfoldable pub number : ℕ → List ℕ → rust.Option (ℕ × ℕ)
+unfoldable pub number : ℕ → List ℕ → std.Option (ℕ × ℕ)
 number most [] = None
 number most (c ∷ l) = cond (eqb c 48) (Some (0, 1)) (cond (is_digit c) (scan most (c - 48) 1 l) None)
 
@@ -39,7 +39,7 @@ push n (listed ns k) = listed (n ∷ ns) k
 push n broken = broken
 
 -- n stands behind the space at place k, and the list goes on behind it
-abbrev pub list_from : (ℕ → List ℕ → Listed) → ℕ → List ℕ → rust.Option (ℕ × ℕ) → Listed
+abbrev pub list_from : (ℕ → List ℕ → Listed) → ℕ → List ℕ → std.Option (ℕ × ℕ) → Listed
 list_from list k l (Some (n, j)) = push n (list (k + j) (drop j l))
 list_from list k l None = broken
 
@@ -116,7 +116,7 @@ kind_at most room a l =
     (cond (starts (bytes " gate (has") l) (has_at most room a Gateway (drop 10 l)) none)
 
 -- a node's form from behind its `(node `, by the number there
-abbrev pub node_of : ℕ → ℕ → List ℕ → rust.Option (ℕ × ℕ) → Option Form
+abbrev pub node_of : ℕ → ℕ → List ℕ → std.Option (ℕ × ℕ) → Option Form
 node_of most room l (Some (a, k)) = kind_at most room a (drop k l)
 node_of most room l None = none
 

@@ -17,7 +17,7 @@ use Rattle.calculus.specs.declared.request.Request.TheVariants.{Node, Route, Ope
 use Rattle.calculus.specs.declared.request.Sender.{Sender}
 use Rattle.calculus.specs.declared.state.Part.{Part}
 use Rattle.calculus.specs.declared.state.State.{State}
-use Rattle.std.specs.Prelude as rust
+use Rattle.std.specs.Prelude as std
 use Rattle.forms.specs.Text.{Form, node, route, «open», step, send, close, show, net, take_down}
 use Rattle.forms.specs.Request.{rising, holding, no_credentials, Asked, in_range, reading, asked}
 use Rattle.model.specs.Row.{stands}
@@ -104,16 +104,16 @@ holding_length (n ∷ ns) s = holding_length ns (set s n true) ∙ length-set s 
 
 -- what a line of the form o, or of none, asks
 pub data Meaning (o : Option Form) : Asked → Type 0 where
-  refuses : (r : Refusal) → IsWritten r → Meaning o (rust.Err r)
+  refuses : (r : Refusal) → IsWritten r → Meaning o (std.Err r)
   gives_node : (a : ℕ) (k : Kind) (has needs : List Bool) → IsSet has → IsSet needs → form_gives_network o ≡ true
-      → Meaning o (rust.Ok (Node a k has needs))
-  gives_route : (a b n : ℕ) → form_gives_network o ≡ true → Meaning o (rust.Ok (Route a b n))
-  of_session : (q : request.Request) → is_session (session_in q) ≡ true → ((u : ℕ) → form_names u o ≡ eqb (session_in q) u) → Meaning o (rust.Ok q)
-  shows : ((u : ℕ) → form_names u o ≡ false) → Meaning o (rust.Ok Show)
-  gives_back : ((u : ℕ) → form_names u o ≡ false) → Meaning o (rust.Ok Net)
+      → Meaning o (std.Ok (Node a k has needs))
+  gives_route : (a b n : ℕ) → form_gives_network o ≡ true → Meaning o (std.Ok (Route a b n))
+  of_session : (q : request.Request) → is_session (session_in q) ≡ true → ((u : ℕ) → form_names u o ≡ eqb (session_in q) u) → Meaning o (std.Ok q)
+  shows : ((u : ℕ) → form_names u o ≡ false) → Meaning o (std.Ok Show)
+  gives_back : ((u : ℕ) → form_names u o ≡ false) → Meaning o (std.Ok Net)
 
 -- a request whose numbers are in range, or refusal 2
-ranged : {o : Option Form} (ok : Bool) (q : request.Request) → (ok ≡ true → Meaning o (rust.Ok q)) → Meaning o (in_range ok q)
+ranged : {o : Option Form} (ok : Bool) (q : request.Request) → (ok ≡ true → Meaning o (std.Ok q)) → Meaning o (in_range ok q)
 ranged true q f = f refl
 ranged false q f = refuses Range refl
 

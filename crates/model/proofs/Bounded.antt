@@ -18,7 +18,6 @@ use Rattle.calculus.specs.declared.state.State.{State}
 use Rattle.forms.specs.Text.{Form, node, route, «open», step, send, close, show, net, take_down}
 use Rattle.forms.specs.Read.{read}
 use Rattle.forms.specs.Request.{rising, asked, Asked}
-use Rattle.model.specs.Lists.{place}
 use Rattle.model.specs.Network.{is_gateway}
 use Rattle.model.specs.Packet.{hop_limit, bare}
 use Rattle.model.specs.Row.{held, is_other, are_nodes}

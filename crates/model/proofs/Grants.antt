@@ -25,7 +25,7 @@ use Rattle.calculus.specs.declared.state.Turn.{Turn}
 use Rattle.forms.specs.Text.{Form}
 use Rattle.forms.specs.Read.{read}
 use Rattle.forms.specs.Request.{asked, Asked}
-use Rattle.model.specs.Lists.{All, place}
+use Rattle.model.specs.Lists.{All}
 use Rattle.model.specs.Row.{held, is_of, stands}
 use Rattle.model.specs.Rules.{grant_rule, rule}
 use Rattle.model.specs.State.{load, store, found_item, added_rows, applied}

@@ -25,5 +25,5 @@ unfolding decimal digits_of lines list_text text starts scan number list fields 
 joins_hold = record { joined = refl; clash = refl; unsorted = refl; unread = refl; short = refl }
 
 pub listings_hold : Listings
-unfolding decimal digits_of list_text text starts scan number list fields has_at kind_at node_at plain_form form_of read answer_text association_line network.node_at next_hop covers has_all_needed how_many reverse_aux reverse admits users_of with_users wire_rule out_rule up_rule est_rule auth_rule grant_rule ack_rule rule load store found_item use_up put_item items_after session_after applied checked node_turn route_turn opening open_move stepped step_at step_move sending send_move closing close_move dropping drop_move changed performed shown entries_from requested answered replies after set_up_steps after_rounds events
+unfolding decimal digits_of list_text text starts scan number list fields has_at kind_at node_at plain_form form_of read answer_text association_line network.node_at next_hop covers has_all_needed how_many admits users_of with_users wire_rule out_rule up_rule est_rule auth_rule grant_rule ack_rule rule load store found_item use_up put_item items_after session_after applied checked node_turn route_turn opening open_move stepped step_at step_move sending send_move closing close_move dropping drop_move changed performed shown entries_from requested answered replies after set_up_steps after_rounds events
 listings_hold = record { a_to_i = refl; lowest_b = refl; lowest_f = refl; further = refl; hop_counts = refl; drops = refl; drop_events = refl; views = refl; steps = refl; further_steps = refl; rounds = refl; joins = joins_hold }

@@ -7,7 +7,6 @@ use Prim.Native.Nat.{ℕ}
 use native.Mathlib.Omega.{arith}
 use lib.Dec.{ltb}
 use borrow.Author.Tests.{lt-ltb, eqb-true}
-use Rattle.std.specs.Prelude as prelude
 use Rattle.std.specs.Prelude as std
 use Rattle.calculus.proofs.Tests.{never}
 use Rattle.calculus.specs.declared.answer.Answer.TheVariants.{No}
@@ -22,11 +21,9 @@ use Rattle.calculus.specs.declared.request.Request as request
 use Rattle.calculus.specs.declared.request.Request.TheVariants.{Node, Route, Open, Step, Send, Close, Show, Net, Drop}
 use Rattle.calculus.specs.declared.state.Part.{Part}
 use Rattle.calculus.specs.declared.state.State.{State}
-use Rattle.std.specs.Prelude as rust
 use Rattle.forms.specs.Text.{Form}
 use Rattle.forms.specs.Read.{read}
 use Rattle.forms.specs.Request.{in_range, asked, Asked}
-use Rattle.model.specs.Packet.{is_bare}
 use Rattle.model.specs.Row.{held, admits, are_nodes, users_of, stands}
 use Rattle.model.specs.Rules.{admitted, up_rule, rule}
 use Rattle.model.specs.State.{load}
@@ -50,9 +47,9 @@ and_same false false b h = refl
 
 -- where an in row of this part tells that its association stands, no rule reads what stands
 module _ (n : Network) (standing : ℕ → ℕ → Bool) (t : Part) (h : (a q : ℕ) → admits (held t) a q ≡ true → standing a q ≡ are_nodes a q) where
-  admitted_same : (a : ℕ) (x : prelude.Option Header) → admitted standing (held t) a x ≡ admitted are_nodes (held t) a x
-  admitted_same a prelude.None = refl
-  admitted_same a (prelude.Some x) = let q = x.from in and_same (standing a q) (are_nodes a q) (admits (held t) a q) (h a q)
+  admitted_same : (a : ℕ) (x : std.Option Header) → admitted standing (held t) a x ≡ admitted are_nodes (held t) a x
+  admitted_same a std.None = refl
+  admitted_same a (std.Some x) = let q = x.from in and_same (standing a q) (are_nodes a q) (admits (held t) a q) (h a q)
 
   rule_same : (i : Item) → rule n standing t i ≡ rule n are_nodes t i
   unfolding rule up_rule
@@ -115,8 +112,8 @@ seen_move t (refuse r) = record { part = t; lines = answer (No r); refusal = som
 seen_move t (moved a t' c) = record { part = t'; lines = answer a; refusal = refusal_in a }
 
 abbrev pub seen_parsed : Network → Part → Asked → Seen
-seen_parsed n t (rust.Ok q) = seen_move t (own_move n are_nodes q t)
-seen_parsed n t (rust.Err r) = seen_move t (refuse r)
+seen_parsed n t (std.Ok q) = seen_move t (own_move n are_nodes q t)
+seen_parsed n t (std.Err r) = seen_move t (refuse r)
 
 -- what holds of a refusal, and of a request's move, holds of a line that asks for it, its numbers in range or not
 pub ranged_seen : (P : Seen → Type 0) (n : Network) (t : Part) → P (seen_move t (refuse Range)) → (ok : Bool) (q : request.Request)

@@ -11,7 +11,7 @@ use Rattle.calculus.specs.declared.effect.Effect.{Effect}
 use Rattle.calculus.specs.declared.network.Network.{Network}
 use Rattle.calculus.specs.declared.request.Request as request
 use Rattle.calculus.specs.declared.state.Part.{Part}
-use Rattle.std.specs.Prelude as rust
+use Rattle.std.specs.Prelude as std
 use Rattle.forms.specs.Read.{read}
 use Rattle.forms.specs.Request.{Asked, asked}
 use Rattle.model.specs.Lists.{up_from}
@@ -68,8 +68,8 @@ module _ (t : Part) where
       (λ e. checked_either (IssuesMove t) refuse (λ r. issued_none t) _ (λ k. record { many = 0; last = omega arith; carried = refl }))
 
   parsed_issues : (n : Network) (p : Asked) → Issues t (seen_parsed n t p)
-  parsed_issues n (rust.Ok q) = move_issues n q
-  parsed_issues n (rust.Err r) = issued_none t
+  parsed_issues n (std.Ok q) = move_issues n q
+  parsed_issues n (std.Err r) = issued_none t
 
   pub local_issues : (n : Network) (c : Call) → Issues t (local n t c)
   unfolding local

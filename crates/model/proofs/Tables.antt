@@ -56,3 +56,8 @@ entries_width line most f k (x ∷ l) d each =
 -- a line alone
 pub one_width : {A : Type 0} (line : A → List ℕ) (most : ℕ) (x : A) → length (line x) ≤ most → length (joined (map line (x ∷ []))) ≤ most
 one_width line most x h = omega (arith, h, length-append (line x) [])
+
+pub only_width : {A : Type 0} (line : A → List ℕ) (most : ℕ) (b : Bool) (x : A) → (b ≡ true → length (line x) ≤ most)
+    → length (joined (map line (only_if b x))) ≤ most
+only_width line most true x h = one_width line most x (h refl)
+only_width line most false x h = omega arith

@@ -19,7 +19,7 @@ use Rattle.calculus.specs.declared.state.Moved.{Moved}
 use Rattle.calculus.specs.declared.state.Part.{Part}
 use Rattle.calculus.specs.declared.state.State.{State}
 use Rattle.calculus.specs.declared.state.Turn.{Turn}
-use Rattle.std.specs.Prelude as rust
+use Rattle.std.specs.Prelude as std
 use Rattle.forms.specs.Request.{Asked}
 use Rattle.model.specs.Row.{one_more, one_less, lowered, stands}
 use Rattle.model.specs.State.{load, store, blank_session}
@@ -116,16 +116,16 @@ pub turn_whole : (s : State) (p : Asked)
     replied_to s p
     ≡ reply_of s p (turn_of s.opened s.network s.users t p) (users_of s.network s.users t p)
 unfolding requested requested_of users_with node_turn route_turn
-turn_whole s (rust.Ok (Node a k has needs)) = given_whole s 1 _ _
-turn_whole s (rust.Ok (Route a b n)) = given_whole s 1 _ _
-turn_whole s (rust.Ok (Open u c d)) = still_whole s u.0 _ (open_still s.users s.network c d (load s u.0))
-turn_whole s (rust.Ok (Step u k)) = performed_whole s u.0 _
-turn_whole s (rust.Ok (Send u w tag)) = still_whole s u.0 _ (send_still s.users w tag (load s u.0))
-turn_whole s (rust.Ok (Close u)) = performed_whole s u.0 _
-turn_whole s (rust.Ok Show) = rw (stays s 1 Ok s.network)
-turn_whole s (rust.Ok Net) = rw (stays s 1 Ok s.network)
-turn_whole s (rust.Ok (Drop u e)) = performed_whole s u.0 _
-turn_whole s (rust.Err r) = refused_whole s 1 r s.network
+turn_whole s (std.Ok (Node a k has needs)) = given_whole s 1 _ _
+turn_whole s (std.Ok (Route a b n)) = given_whole s 1 _ _
+turn_whole s (std.Ok (Open u c d)) = still_whole s u.0 _ (open_still s.users s.network c d (load s u.0))
+turn_whole s (std.Ok (Step u k)) = performed_whole s u.0 _
+turn_whole s (std.Ok (Send u w tag)) = still_whole s u.0 _ (send_still s.users w tag (load s u.0))
+turn_whole s (std.Ok (Close u)) = performed_whole s u.0 _
+turn_whole s (std.Ok Show) = rw (stays s 1 Ok s.network)
+turn_whole s (std.Ok Net) = rw (stays s 1 Ok s.network)
+turn_whole s (std.Ok (Drop u e)) = performed_whole s u.0 _
+turn_whole s (std.Err r) = refused_whole s 1 r s.network
 
 -- ---- one call of a state that is held in pieces
 
@@ -177,8 +177,8 @@ with_length n users t Net = refl
 with_length n users t (Drop u e) = after_length users (drop_move e t)
 
 users_length : (n : Network) (users : List ℕ) (t : Part) (p : Asked) → length (users_of n users t p) ≡ length users
-users_length n users t (rust.Ok q) = with_length n users t q
-users_length n users t (rust.Err r) = refl
+users_length n users t (std.Ok q) = with_length n users t q
+users_length n users t (std.Err r) = refl
 
 module _ {s : State} {opened : Bool} {n : Network} {parts : List Part} {users : List ℕ} (hs : Sized s) (h : Held s opened n parts users) where
   pub held_further : (r : Asked) → Numbered (session_of r) → (m : Moved) (left : List ℕ) (z : Part)

@@ -9,7 +9,7 @@ use Rattle.calculus.specs.declared.request.Request as request
 use Rattle.calculus.specs.declared.request.Request.TheVariants.{Node, Route, Open, Step, Send, Close, Show, Net, Drop}
 use Rattle.calculus.specs.declared.state.State.{State}
 use Rattle.calculus.specs.declared.state.Turn.{Turn}
-use Rattle.std.specs.Prelude as rust
+use Rattle.std.specs.Prelude as std
 use Rattle.forms.specs.Bytes.{joined}
 use Rattle.forms.specs.Text.{Form, node, route, «open», step, send, close, show, net, take_down}
 use Rattle.forms.specs.Read.{read}
@@ -75,8 +75,8 @@ requested s (Drop u e) = one_answer (in_session s u.0 (drop_move e))
 
 -- "every call 0, 1, 2": 1 and 2 are the reading's
 abbrev pub replied_to : State → Asked → Reply
-replied_to s (rust.Ok q) = requested s q
-replied_to s (rust.Err r) = one_answer (refused s r)
+replied_to s (std.Ok q) = requested s q
+replied_to s (std.Err r) = one_answer (refused s r)
 
 -- a call with this line and a lent output of `size` bytes
 unfoldable pub answered : State → List ℕ → ℕ → Reply

@@ -9,11 +9,10 @@ use Rattle.calculus.specs.declared.packet.Slot.{Slot}
 use Rattle.calculus.specs.declared.request.Request as request
 use Rattle.calculus.specs.declared.request.Request.TheVariants.{Node, Route, Open, Step, Send, Close, Show, Net, Drop}
 use Rattle.calculus.specs.declared.state.State.{State}
-use Rattle.std.specs.Prelude as rust
+use Rattle.std.specs.Prelude as std
 use Rattle.forms.specs.Text.{take_down}
 use Rattle.forms.specs.Read.{read}
 use Rattle.forms.specs.Request.{asked, Asked}
-use Rattle.model.specs.Lists.{place}
 use Rattle.model.specs.Row.{held}
 use Rattle.model.specs.State.{fresh, load, found_item}
 use Rattle.model.specs.Calls.{Call, call, is_accepted, after}
@@ -57,8 +56,8 @@ request_events s (Drop u e) = removed ∷ []
 
 -- the same, of a line that was read
 abbrev pub line_events : State → Asked → List Event
-line_events s (rust.Ok q) = request_events s q
-line_events s (rust.Err r) = []
+line_events s (std.Ok q) = request_events s q
+line_events s (std.Err r) = []
 
 -- the events of a call: none where it is refused
 abbrev pub call_events : State → Call → List Event

@@ -1,6 +1,6 @@
 -- Two networks made one: what a join of two files writes (document 02, #106). `joins::join` cites it; its promises are in Union. Assumes nothing.
 use Rattle.std.specs.Prelude.{ℕ, ◌+◌, Bool, true, false, cond, not, ◌&&◌, ◌||◌, List, [], ◌∷◌, ◌++◌, map, ltb, eqb, length}
-use Rattle.std.specs.Prelude as maybe
+use Rattle.std.specs.Prelude as std
 use Rattle.std.proofs.Math.Option.{Option, none, some}
 use Rattle.calculus.specs.declared.answer.Answer.TheVariants.{No}
 use Rattle.calculus.specs.declared.answer.Refusal.{Refusal}
@@ -81,8 +81,8 @@ abbrev pub clash : Network → Network → Bool
 clash n m = somewhere differ (place_lines n) (place_lines m)
 
 -- an entry of the first network, that is a node or the next node of a route, else of the second
-abbrev pub either_entry : {A : Type 0} → maybe.Option A → maybe.Option A → maybe.Option A
-either_entry x y = cond (maybe.is_some x) x y
+abbrev pub either_entry : {A : Type 0} → std.Option A → std.Option A → std.Option A
+either_entry x y = cond (std.is_some x) x y
 
 -- "every node and route of either"
 abbrev pub union : Network → Network → Network

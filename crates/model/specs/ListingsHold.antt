@@ -14,10 +14,10 @@ use Rattle.calculus.specs.declared.request.Request.TheVariants.{Node, Route, Ope
 use Rattle.calculus.specs.declared.session.Row.{Row}
 use Rattle.calculus.specs.declared.session.Stage.{Stage}
 use Rattle.calculus.specs.declared.state.State.{State}
-use Rattle.std.specs.Prelude as rust
+use Rattle.std.specs.Prelude as std
 use Rattle.forms.specs.Read.{read}
 use Rattle.forms.specs.Request.{asked, Asked}
-use Rattle.model.specs.Item.{is_wait, vacant}
+use Rattle.model.specs.Item.{is_wait}
 use Rattle.model.specs.State.{fresh, load}
 use Rattle.model.specs.Calls.{Call, call, lines_of, after, replies, roomy_call}
 use Rattle.model.specs.Noninterference.{View, view}
@@ -66,8 +66,8 @@ steps_lowest s Net = true
 steps_lowest s (Drop u e) = true
 
 abbrev pub parsed_lowest : State → Asked → Bool
-parsed_lowest s (rust.Ok q) = steps_lowest s q
-parsed_lowest s (rust.Err r) = true
+parsed_lowest s (std.Ok q) = steps_lowest s q
+parsed_lowest s (std.Err r) = true
 
 abbrev pub only_lowest : State → Listing → Bool
 only_lowest s [] = true

@@ -15,10 +15,7 @@ use Rattle.calculus.specs.declared.session.Session.{Session}
 use Rattle.calculus.specs.declared.session.Stage.{Stage}
 use Rattle.calculus.specs.declared.state.Part.{Part}
 use Rattle.calculus.specs.declared.state.State.{State}
-use Rattle.model.specs.Network.{no_node}
-use Rattle.model.specs.Item.{vacant, is_that_wait, of_item, slot_at}
-use Rattle.model.specs.Lists.{place}
-use Rattle.model.specs.Row.{no_peers}
+use Rattle.model.specs.Item.{is_that_wait, of_item, slot_at}
 
 -- ---- fresh
 

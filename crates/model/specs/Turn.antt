@@ -12,7 +12,7 @@ use Rattle.calculus.specs.declared.request.Request.TheVariants.{Node, Route, Ope
 use Rattle.calculus.specs.declared.state.Moved.{Moved}
 use Rattle.calculus.specs.declared.state.Part.{Part}
 use Rattle.calculus.specs.declared.state.State.{State}
-use Rattle.std.specs.Prelude as rust
+use Rattle.std.specs.Prelude as std
 use Rattle.forms.specs.Request.{Asked}
 use Rattle.model.specs.NetworkText.{network_lines}
 use Rattle.model.specs.Row.{stands, raised, lowered}
@@ -56,8 +56,8 @@ session_in Net = 1
 session_in (Drop u e) = u.0
 
 abbrev pub session_of : Asked → ℕ
-session_of (rust.Ok q) = session_in q
-session_of (rust.Err r) = 1
+session_of (std.Ok q) = session_in q
+session_of (std.Err r) = 1
 
 -- what a request does to the part t, and answers; (ok) stands for a report, which is accepted
 unfoldable pub requested_of : Bool → Network → List ℕ → Part → request.Request → Moved
@@ -72,8 +72,8 @@ requested_of opened n users t Net = staying t Ok
 requested_of opened n users t (Drop u e) = moving t (drop_move e t)
 
 abbrev pub turn_of : Bool → Network → List ℕ → Part → Asked → Moved
-turn_of opened n users t (rust.Ok q) = requested_of opened n users t q
-turn_of opened n users t (rust.Err r) = staying t (No r)
+turn_of opened n users t (std.Ok q) = requested_of opened n users t q
+turn_of opened n users t (std.Err r) = staying t (No r)
 
 -- the users that it leaves: only a step, a close and a drop move them
 unfoldable pub users_with : Network → List ℕ → Part → request.Request → List ℕ
@@ -88,8 +88,8 @@ users_with n users t Net = users
 users_with n users t (Drop u e) = users_after users (drop_move e t)
 
 abbrev pub users_of : Network → List ℕ → Part → Asked → List ℕ
-users_of n users t (rust.Ok q) = users_with n users t q
-users_of n users t (rust.Err r) = users
+users_of n users t (std.Ok q) = users_with n users t q
+users_of n users t (std.Err r) = users
 
 -- where a call is answered (ok), the network may change
 abbrev pub answers_ok : Answer → Bool
@@ -117,8 +117,8 @@ network_with n Net = n
 network_with n (Drop u e) = n
 
 abbrev pub network_of : Network → Asked → Network
-network_of n (rust.Ok q) = network_with n q
-network_of n (rust.Err r) = n
+network_of n (std.Ok q) = network_with n q
+network_of n (std.Err r) = n
 
 -- the report that a request asks for, if it asks for one
 abbrev pub report_in : request.Request → Report
@@ -134,8 +134,8 @@ report_in (Drop u e) = NoReport
 
 -- the report that a line asks for
 abbrev pub report_of : Asked → Report
-report_of (rust.Ok q) = report_in q
-report_of (rust.Err r) = NoReport
+report_of (std.Ok q) = report_in q
+report_of (std.Err r) = NoReport
 
 -- the lines of a report; where there is none, that of the answer a
 abbrev pub lines_as : Network → List ℕ → Answer → Report → Lines
