@@ -1,4 +1,4 @@
-// Lines written straight into the caller's slice, where there is room for them; and those of answers.
+// Lines written straight into the caller's slice, where there is room for them; and those of answers and refusals.
 ghost use Rattle.std.specs.Prelude.{ℕ, List, ◌+◌, ◌≤◌, length};
 ghost use Rattle.forms.specs.Answer.{answer_text};
 ghost use Rattle.answers.specs.Write.{Writes};
@@ -6,7 +6,7 @@ ghost use Rattle.answers.specs.Put.{Adds, Written};
 
 use crate::put::Output;
 use crate::room::has_room;
-use calculus::answer::Answer;
+use calculus::answer::{Answer, Refusal};
 
 // A line, newline and all.
 pub trait OutputLine {
@@ -45,7 +45,7 @@ pub fn write<L: OutputLine>(out: &mut [u8], at: usize, line: &L) -> usize
     output.at
 }
 
-impl OutputLine for Answer {
+impl OutputLine for Result<Answer, Refusal> {
     ghost text = { answer_text };
 
     ghost LONGEST = { 32 };
@@ -55,20 +55,20 @@ impl OutputLine for Answer {
     #[tactic(auto, using(crate::proofs::Widths::width_number, crate::proofs::Widths::width_one, crate::proofs::Widths::width_two), unfolding(forms::specs::Answer::answer_text))]
     fn put(&self, out: &mut Output<'_>) {
         match *self {
-            Answer::Ok => out.word(b"(ok)\n"),
-            Answer::Made(item) => out.line(b"(made", &[item.0 as u64]),
-            Answer::MadeByDefault(item) => {
+            Ok(Answer::Ok) => out.word(b"(ok)\n"),
+            Ok(Answer::Made(item)) => out.line(b"(made", &[item.0 as u64]),
+            Ok(Answer::MadeByDefault(item)) => {
                 out.word(b"(made ");
                 out.number(item.0 as u64);
                 out.word(b" default)\n");
             }
-            Answer::MadeTwo(item, next) => out.line(b"(made", &[item.0 as u64, next.0 as u64]),
-            Answer::Lost(loss) => out.line(b"(lost", &[loss.number() as u64]),
-            Answer::Denied => out.word(b"(denied)\n"),
-            Answer::Opened => out.word(b"(opened)\n"),
-            Answer::Delivered(tag) => out.line(b"(delivered", &[tag as u64]),
-            Answer::Closed => out.word(b"(closed)\n"),
-            Answer::No(refusal) => out.line(b"(no", &[refusal.number() as u64]),
+            Ok(Answer::MadeTwo(item, next)) => out.line(b"(made", &[item.0 as u64, next.0 as u64]),
+            Ok(Answer::Lost(loss)) => out.line(b"(lost", &[u8::from(loss) as u64]),
+            Ok(Answer::Denied) => out.word(b"(denied)\n"),
+            Ok(Answer::Opened) => out.word(b"(opened)\n"),
+            Ok(Answer::Delivered(tag)) => out.line(b"(delivered", &[tag as u64]),
+            Ok(Answer::Closed) => out.word(b"(closed)\n"),
+            Err(refusal) => out.line(b"(no", &[u8::from(refusal) as u64]),
         }
     }
 }

@@ -1,5 +1,5 @@
 -- Numbers in range, the end that a number names, and the SPI of a pair of nodes. `number.rt` and `request.rt` cite it. Assumes nothing.
-use Rattle.std.specs.Prelude.{ℕ, ◌+◌, ◌*◌, ◌-◌, Bool, cond, ◌&&◌, Result, Ok, Err, leb, eqb}
+use Rattle.std.specs.Prelude.{ℕ, ◌+◌, ◌*◌, ◌-◌, Bool, cond, ◌&&◌, Result, Ok, Err, leb, eqb, Option, Some, None, ltb}
 use Rattle.calculus.specs.declared.request.Sender.{Sender}
 use Rattle.calculus.specs.declared.request.Sender.TheVariants.{Client, Server}
 use Rattle.calculus.specs.declared.number.Spi.{Spi}
@@ -27,6 +27,10 @@ is_session = within 1 8
 -- an item's number: "from 1 to 1,000,000"
 abbrev pub is_item : ℕ → Bool
 is_item = within 1 1000000
+
+-- the last number n of a session, unless it is "above 999,998"
+abbrev pub unspent : ℕ → Option ℕ
+unspent n = cond (ltb 999998 n) None (Some n)
 
 -- "establishments 1 to 8 are in range"
 abbrev pub is_establishment : ℕ → Bool

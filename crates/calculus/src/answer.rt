@@ -4,91 +4,63 @@ ghost use Rattle.calculus.specs.Answer.{loss_number, refusal_number};
 
 use crate::number::{ItemNumber, Spi};
 
-// Why a call or a join is refused, in the order of the numbers.
-#[derive(Clone, Copy)]
+// Why a call or a join is refused, by its number in document 01's table, or document 02's.
+#[derive(Clone, Copy, PartialEq, Eq)]
 pub enum Refusal {
-    Short,
-    Unreadable,
-    Range,
-    Double,
-    Unknown,
-    Late,
-    Taken,
-    Idle,
-    Same,
-    Gateway,
-    Spent,
-    NoItem,
-    Waiting,
-    Full,
+    Short = 0,
+    Unreadable = 1,
+    Range = 2,
+    Double = 3,
+    Unknown = 4,
+    Late = 5,
+    Taken = 6,
+    Idle = 7,
+    Same = 8,
+    Gateway = 9,
+    Spent = 10,
+    NoItem = 11,
+    Waiting = 12,
+    Full = 13,
     // of a join, document 02's
-    Clash,
-    Unsorted,
+    Clash = 14,
+    Unsorted = 15,
     // of a drop, document 02's
-    Busy,
-    NoSuchTunnel,
+    Busy = 16,
+    NoSuchTunnel = 17,
 }
 
-impl Refusal {
-    // Its number in document 01's table, or document 02's.
-    pub fn number(self) -> u8
-        ensures { result ≡ refusal_number self }
-    {
-        match self {
-            Refusal::Short => 0,
-            Refusal::Unreadable => 1,
-            Refusal::Range => 2,
-            Refusal::Double => 3,
-            Refusal::Unknown => 4,
-            Refusal::Late => 5,
-            Refusal::Taken => 6,
-            Refusal::Idle => 7,
-            Refusal::Same => 8,
-            Refusal::Gateway => 9,
-            Refusal::Spent => 10,
-            Refusal::NoItem => 11,
-            Refusal::Waiting => 12,
-            Refusal::Full => 13,
-            Refusal::Clash => 14,
-            Refusal::Unsorted => 15,
-            Refusal::Busy => 16,
-            Refusal::NoSuchTunnel => 17,
-        }
+impl From<Refusal> for u8 {
+    ghost from_gives = { λ refusal number. number ≡ refusal_number refusal };
+
+    fn from(refusal: Refusal) -> u8 {
+        refusal as u8
     }
 }
 
-// Why a packet is lost.
-#[derive(Clone, Copy)]
+// Why a packet is lost, by its number in document 01's rules.
+#[derive(Clone, Copy, PartialEq, Eq)]
 pub enum Loss {
     // bare Data or Done at a gateway
-    Unprotected,
-    HopLimit,
-    NoRoute,
+    Unprotected = 1,
+    HopLimit = 2,
+    NoRoute = 3,
     // no association, or no in row of this session, for its header
-    NoTunnel,
+    NoTunnel = 4,
     // not through the tunnel of the matching in row
-    WrongTunnel,
+    WrongTunnel = 5,
     // 8 establishments begun
-    Exhausted,
+    Exhausted = 6,
 }
 
-impl Loss {
-    // Its number in document 01's rules.
-    pub fn number(self) -> u8
-        ensures { result ≡ loss_number self }
-    {
-        match self {
-            Loss::Unprotected => 1,
-            Loss::HopLimit => 2,
-            Loss::NoRoute => 3,
-            Loss::NoTunnel => 4,
-            Loss::WrongTunnel => 5,
-            Loss::Exhausted => 6,
-        }
+impl From<Loss> for u8 {
+    ghost from_gives = { λ loss number. number ≡ loss_number loss };
+
+    fn from(loss: Loss) -> u8 {
+        loss as u8
     }
 }
 
-// What a call answers, unless it asks for a report.
+// What a call that is not refused answers, unless it asks for a report.
 #[derive(Clone, Copy)]
 pub enum Answer {
     Ok,
@@ -100,7 +72,6 @@ pub enum Answer {
     Opened,
     Delivered(u32),
     Closed,
-    No(Refusal),
 }
 
 // A standing association as show reports it: its direction is out, or in.

@@ -1,8 +1,9 @@
 // Session numbers, item numbers and SPIs: three spaces, so three types.
-ghost use Rattle.std.specs.Prelude.{◌≡◌, ◌-◌};
+ghost use Rattle.std.specs.Prelude.{◌≡◌, ◌+◌, ◌-◌};
 ghost use Rattle.calculus.specs.Number as spec;
 
 use crate::answer::Refusal;
+use std::marker::Model;
 
 // Whether `n` is `low` to `high`.
 pub fn within(n: u64, low: u64, high: u64) -> bool
@@ -95,6 +96,54 @@ impl TryFrom<u64> for ItemNumber {
         } else {
             Err(Refusal::Range)
         }
+    }
+}
+
+// The last number of a session that has two more to give: 999,998 at most.
+#[derive(Clone, Copy)]
+pub struct Unspent(u32);
+
+impl Model for Unspent {
+    ghost use Rattle.std.specs.Prelude.{ℕ, ◌≤◌};
+
+    ghost Value = { ℕ };
+
+    ghost view = { λ a. a.0 };
+
+    ghost invariant = { λ a. a.0 ≤ 999998 };
+
+    ghost inverse = { λ n. record { 0 = n } };
+}
+
+impl Unspent {
+    // None where the last number is above 999,998.
+    pub fn of(last: ItemNumber) -> Option<Unspent>
+        ensures { result ≡ spec.unspent last.0 }
+    {
+        if 999998 < last.0 {
+            return None;
+        }
+        Some(Unspent(last.0))
+    }
+
+    pub fn last(self) -> ItemNumber
+        ensures { result ≡ record { 0 = self } }
+    {
+        ItemNumber(self.0)
+    }
+
+    // The number after the last.
+    pub fn first(self) -> ItemNumber
+        ensures { result ≡ record { 0 = self + 1 } }
+    {
+        ItemNumber(self.0 + 1)
+    }
+
+    // The number after that.
+    pub fn second(self) -> ItemNumber
+        ensures { result ≡ record { 0 = self + 2 } }
+    {
+        ItemNumber(self.0 + 2)
     }
 }
 

@@ -78,10 +78,9 @@ pub enum Request {
     Net,
 }
 
-// The report that a request asks for; where it asks for none, its answer is one line.
+// A report that a request asks for; where it asks for none, its answer is one line.
 #[derive(Clone, Copy)]
 pub enum Report {
-    NoReport,
     AllAssociations,
     WholeNetwork,
 }

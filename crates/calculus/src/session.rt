@@ -2,7 +2,7 @@
 use crate::number::ItemNumber;
 
 // How far a set-up has come.
-#[derive(Clone, Copy)]
+#[derive(Clone, Copy, PartialEq, Eq)]
 pub enum Stage {
     Unused,
     SettingUp,

@@ -1,5 +1,5 @@
 // The tables of the simulator, and a session's part of them.
-use crate::answer::Answer;
+use crate::answer::{Answer, Refusal};
 use crate::network::Network;
 use crate::packet::Slot;
 use crate::session::{Row, Session};
@@ -24,17 +24,9 @@ pub struct State {
     pub users: [u16; 2048],
 }
 
-// What a call that asks for no report answers, and the state that it leaves.
+// What a call that asks for no report answers, or why it is refused, and the state that it leaves.
 #[derive(Clone, Copy)]
 pub struct Turn {
     pub state: State,
-    pub answer: Answer,
-}
-
-// What a request leaves of a session's part, and what it answers. `opens` tells that it is an accepted open.
-#[derive(Clone, Copy)]
-pub struct Moved {
-    pub opens: bool,
-    pub answer: Answer,
-    pub part: Part,
+    pub answer: Result<Answer, Refusal>,
 }

@@ -24,7 +24,7 @@ fn put_status(rt: &HostRuntime, status: Status) -> io::Result<()> {
         Status::Answered => put(rt, b"answered"),
         Status::Refused(refusal) => {
             put(rt, b"refusal")?;
-            put_number(rt, refusal.number() as u64)
+            put_number(rt, u8::from(refusal) as u64)
         }
     }
 }

@@ -6,48 +6,46 @@ ghost use Rattle.model.specs.State as spec;
 
 use calculus::answer::Answer;
 use calculus::effect::{Effect, Outcome};
-use calculus::number::ItemNumber;
+use calculus::number::{ItemNumber, Unspent};
 use calculus::packet::Slot;
 use calculus::session::{Row, Session, Stage};
-use calculus::state::Part;
 use items::places::{put_item, use_up};
 use lookups::set::set_at;
 use lookups::users::raise;
 
-// Writes the outcome's items, `n` being the last number.
-fn write(items: &mut [Option<Slot>; 16], n: ItemNumber, o: &Outcome)
-    requires { n.0 ≤ 999998 }
-    ensures { items.new ≡ spec.written items.old n.0 o.now }
+// Writes the outcome's items.
+fn write(items: &mut [Option<Slot>; 16], last: Unspent, o: &Outcome)
+    ensures { items.new ≡ spec.written items.old last o.now }
 {
     match o {
-        Outcome::Wrote(i) | Outcome::WroteByDefault(i) => put_item(items, ItemNumber(n.0 + 1), *i),
+        Outcome::Wrote(i) | Outcome::WroteByDefault(i) => put_item(items, last.first(), *i),
         Outcome::WroteTwo(i, j) => {
-            put_item(items, ItemNumber(n.0 + 1), *i);
-            put_item(items, ItemNumber(n.0 + 2), *j);
+            put_item(items, last.first(), *i);
+            put_item(items, last.second(), *j);
         }
         _ => {}
     }
 }
 
-fn written_count(o: &Outcome) -> u32
-    ensures { result ≡ spec.written_count o.now }
+// The last number once they are written.
+fn last_after(last: Unspent, o: &Outcome) -> ItemNumber
+    ensures { result ≡ record { 0 = last + spec.written_count o.now } }
 {
     match o {
-        Outcome::Wrote(_) | Outcome::WroteByDefault(_) => 1,
-        Outcome::WroteTwo(..) => 2,
-        _ => 0,
+        Outcome::Wrote(_) | Outcome::WroteByDefault(_) => last.first(),
+        Outcome::WroteTwo(..) => last.second(),
+        _ => last.last(),
     }
 }
 
 // What a step with this outcome answers.
-pub fn answer_of(n: ItemNumber, o: &Outcome) -> Answer
-    requires { n.0 ≤ 999998 }
-    ensures { result ≡ spec.answer_of n.0 o.now }
+pub fn answer_of(last: Unspent, o: &Outcome) -> Answer
+    ensures { result ≡ spec.answer_of last o.now }
 {
     match o {
-        Outcome::Wrote(_) => Answer::Made(ItemNumber(n.0 + 1)),
-        Outcome::WroteByDefault(_) => Answer::MadeByDefault(ItemNumber(n.0 + 1)),
-        Outcome::WroteTwo(..) => Answer::MadeTwo(ItemNumber(n.0 + 1), ItemNumber(n.0 + 2)),
+        Outcome::Wrote(_) => Answer::Made(last.first()),
+        Outcome::WroteByDefault(_) => Answer::MadeByDefault(last.first()),
+        Outcome::WroteTwo(..) => Answer::MadeTwo(last.first(), last.second()),
         Outcome::Lost(l) => Answer::Lost(*l),
         Outcome::Denied => Answer::Denied,
         Outcome::Opened => Answer::Opened,
@@ -77,7 +75,7 @@ fn held_after(held: u8, added: Option<(Row, Row)>) -> u8
     }
 }
 
-fn add_rows(rows: &mut [Row; 32], held: u8, added: Option<(Row, Row)>)
+pub fn add_rows(rows: &mut [Row; 32], held: u8, added: Option<(Row, Row)>)
     ensures { rows.new ≡ sets rows.old held (spec.placed held added) }
 {
     if let Some((older, newer)) = added {
@@ -105,33 +103,24 @@ pub fn users_after(users: &mut [u16; 2048], held: u8, added: Option<(Row, Row)>)
 
 // The item at `at` and the wait are used up, and the outcome's items written.
 #[tactic(auto, unfolding(model::specs::State::items_after))]
-fn apply_to_items(items: &mut [Option<Slot>; 16], n: ItemNumber, at: usize, f: &Effect)
-    requires { n.0 ≤ 999998 }
-    ensures { items.new ≡ spec.items_after items.old n.0 at f.now }
+pub fn apply_to_items(items: &mut [Option<Slot>; 16], last: Unspent, at: usize, f: &Effect)
+    ensures { items.new ≡ spec.items_after items.old last at f.now }
 {
     set_at(items, at, None);
     use_up(items, f.wait);
-    write(items, n, &f.outcome);
+    write(items, last, &f.outcome);
 }
 
+// The session, whose last number is `last`, once the effect is had.
 #[tactic(auto, unfolding(model::specs::State::session_after))]
-fn apply_to_session(s: &mut Session, f: &Effect)
-    requires { s.now.last.0 ≤ 999998 }
-    ensures { s.new ≡ spec.session_after s.old f.now }
+pub fn session_after(s: Session, last: Unspent, f: &Effect) -> Session
+    ensures { result ≡ spec.session_after (record s { last = record { 0 = last } }) f.now }
 {
-    s.stage = stage_after(s.stage, &f.outcome);
-    s.begun = f.begins.unwrap_or(s.begun);
-    s.rows = held_after(s.rows, f.added);
-    s.last.0 += written_count(&f.outcome);
-}
-
-// The item at `at` has the effect `f`.
-#[tactic(auto, unfolding(model::specs::State::applied))]
-pub fn apply(t: &mut Part, at: usize, f: &Effect)
-    requires { t.now.session.last.0 ≤ 999998 }
-    ensures { t.new ≡ spec.applied t.old at f.now }
-{
-    apply_to_items(&mut t.items, t.session.last, at, f);
-    add_rows(&mut t.rows, t.session.rows, f.added);
-    apply_to_session(&mut t.session, f);
+    Session {
+        stage: stage_after(s.stage, &f.outcome),
+        begun: f.begins.unwrap_or(s.begun),
+        rows: held_after(s.rows, f.added),
+        last: last_after(last, &f.outcome),
+        ..s
+    }
 }

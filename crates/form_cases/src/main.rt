@@ -132,7 +132,7 @@ fn put_line(rt: &HostRuntime, line: &[u8]) -> io::Result<()> {
         }
         Err(refusal) => {
             put(rt, b"refusal")?;
-            put_number(rt, refusal.number() as u64)?;
+            put_number(rt, u8::from(refusal) as u64)?;
         }
     }
     put(rt, b"\n")

@@ -7,7 +7,8 @@ use mathlib.Core.Bool.{false}
 use mathlib.Core.Option.{none, some}
 use Rattle.std.specs.Prelude.{Some, None, Ok, Err}
 use Rattle.calculus.specs.declared.answer.Answer.TheVariants as answer
-use Rattle.calculus.specs.declared.answer.Answer.TheVariants.{Made, MadeByDefault, MadeTwo, Lost, Delivered, No}
+use Rattle.calculus.specs.declared.answer.Answer.TheVariants.{Made, MadeByDefault, MadeTwo, Lost, Delivered}
+use Rattle.calculus.specs.declared.answer.Answer.{Answer}
 use Rattle.calculus.specs.declared.answer.Loss.TheVariants.{HopLimit}
 use Rattle.calculus.specs.declared.answer.Refusal.TheVariants.{Waiting, Range, Busy, NoSuchTunnel}
 use Rattle.calculus.specs.declared.network.Kind.TheVariants.{Host, Gateway}
@@ -62,7 +63,7 @@ no_node_0 = refl
 
 -- ---- answers
 
-answers : map answer_text (answer.Ok ∷ Made (record { 0 = 3 }) ∷ MadeByDefault (record { 0 = 5 }) ∷ MadeTwo (record { 0 = 3 }) (record { 0 = 4 }) ∷ Lost HopLimit ∷ Delivered 77 ∷ No Waiting ∷ No Busy ∷ No NoSuchTunnel ∷ [])
+answers : map answer_text (Ok Answer.Ok ∷ Ok (Made (record { 0 = 3 })) ∷ Ok (MadeByDefault (record { 0 = 5 })) ∷ Ok (MadeTwo (record { 0 = 3 }) (record { 0 = 4 })) ∷ Ok (Lost HopLimit) ∷ Ok (Delivered 77) ∷ Err Waiting ∷ Err Busy ∷ Err NoSuchTunnel ∷ [])
     ≡ map bytes ("(ok)\n" ∷ "(made 3)\n" ∷ "(made 5 default)\n" ∷ "(made 3 4)\n" ∷ "(lost 2)\n" ∷ "(delivered 77)\n" ∷ "(no 12)\n" ∷ "(no 16)\n" ∷ "(no 17)\n" ∷ [])
 unfolding answer_text list_text decimal digits_of
 answers = refl

@@ -6,6 +6,7 @@ use mathlib.Core.Option.{Option, none, some}
 use Prim.Native.Nat.{ℕ}
 use lib.Dec.{eqb}
 use lib.ListN.{length, set, length-set}
+use Rattle.std.specs.Prelude.{Err, Ok}
 use Rattle.calculus.specs.Number.{is_node, is_destination, within, is_session, is_item, is_establishment, is_tag, sender_of}
 use Rattle.calculus.proofs.Tests.{both, never, either}
 use Rattle.calculus.specs.declared.answer.Refusal.{Refusal}
@@ -17,11 +18,10 @@ use Rattle.calculus.specs.declared.request.Request.TheVariants.{Node, Route, Ope
 use Rattle.calculus.specs.declared.request.Sender.{Sender}
 use Rattle.calculus.specs.declared.state.Part.{Part}
 use Rattle.calculus.specs.declared.state.State.{State}
-use Rattle.std.specs.Prelude as std
 use Rattle.forms.specs.Text.{Form, node, route, «open», step, send, close, show, net, take_down}
 use Rattle.forms.specs.Request.{rising, holding, no_credentials, Asked, in_range, reading, asked}
 use Rattle.model.specs.Row.{stands}
-use Rattle.model.specs.Requests.{Move, refuse, open_move, step_move, send_move, close_move, drop_move, performed}
+use Rattle.model.specs.Requests.{Move, open_move, step_move, send_move, close_move, drop_move, performed}
 use Rattle.model.specs.State.{load}
 use Rattle.model.proofs.Checks.{IsWritten}
 use Rattle.model.specs.Calls.{one_answer, requested, form_gives_network, form_names}
@@ -40,18 +40,18 @@ session_in (Drop u e) = u.0
 
 -- the move of a session's request; other requests have none
 abbrev pub own_move : Network → (ℕ → ℕ → Bool) → request.Request → Part → Move
-own_move n standing (Node a k has needs) t = refuse Unreadable
-own_move n standing (Route a b next) t = refuse Unreadable
+own_move n standing (Node a k has needs) t = Err Unreadable
+own_move n standing (Route a b next) t = Err Unreadable
 own_move n standing (Open u c d) t = open_move n c d t
 own_move n standing (Step u k) t = step_move n standing k.0 t
 own_move n standing (Send u w tag) t = send_move w tag t
 own_move n standing (Close u) t = close_move t
-own_move n standing Show t = refuse Unreadable
-own_move n standing Net t = refuse Unreadable
+own_move n standing Show t = Err Unreadable
+own_move n standing Net t = Err Unreadable
 own_move n standing (Drop u e) t = drop_move e t
 
 -- what holds of every request's move
-pub own_cases : (P : Move → Type 0) (n : Network) (standing : ℕ → ℕ → Bool) (q : request.Request) (t : Part) → P (refuse Unreadable)
+pub own_cases : (P : Move → Type 0) (n : Network) (standing : ℕ → ℕ → Bool) (q : request.Request) (t : Part) → P (Err Unreadable)
     → ((c d : ℕ) → P (open_move n c d t)) → ((k : ℕ) → P (step_move n standing k t)) → ((w : Sender) (tag : ℕ) → P (send_move w tag t)) → P (close_move t)
     → ((e : ℕ) → P (drop_move e t)) → P (own_move n standing q t)
 own_cases P n standing (Node a k has needs) t other opens steps sends closes drops = other
@@ -104,16 +104,16 @@ holding_length (n ∷ ns) s = holding_length ns (set s n true) ∙ length-set s 
 
 -- what a line of the form o, or of none, asks
 pub data Meaning (o : Option Form) : Asked → Type 0 where
-  refuses : (r : Refusal) → IsWritten r → Meaning o (std.Err r)
+  refuses : (r : Refusal) → IsWritten r → Meaning o (Err r)
   gives_node : (a : ℕ) (k : Kind) (has needs : List Bool) → IsSet has → IsSet needs → form_gives_network o ≡ true
-      → Meaning o (std.Ok (Node a k has needs))
-  gives_route : (a b n : ℕ) → form_gives_network o ≡ true → Meaning o (std.Ok (Route a b n))
-  of_session : (q : request.Request) → is_session (session_in q) ≡ true → ((u : ℕ) → form_names u o ≡ eqb (session_in q) u) → Meaning o (std.Ok q)
-  shows : ((u : ℕ) → form_names u o ≡ false) → Meaning o (std.Ok Show)
-  gives_back : ((u : ℕ) → form_names u o ≡ false) → Meaning o (std.Ok Net)
+      → Meaning o (Ok (Node a k has needs))
+  gives_route : (a b n : ℕ) → form_gives_network o ≡ true → Meaning o (Ok (Route a b n))
+  of_session : (q : request.Request) → is_session (session_in q) ≡ true → ((u : ℕ) → form_names u o ≡ eqb (session_in q) u) → Meaning o (Ok q)
+  shows : ((u : ℕ) → form_names u o ≡ false) → Meaning o (Ok Show)
+  gives_back : ((u : ℕ) → form_names u o ≡ false) → Meaning o (Ok Net)
 
 -- a request whose numbers are in range, or refusal 2
-ranged : {o : Option Form} (ok : Bool) (q : request.Request) → (ok ≡ true → Meaning o (std.Ok q)) → Meaning o (in_range ok q)
+ranged : {o : Option Form} (ok : Bool) (q : request.Request) → (ok ≡ true → Meaning o (Ok q)) → Meaning o (in_range ok q)
 ranged true q f = f refl
 ranged false q f = refuses Range refl
 

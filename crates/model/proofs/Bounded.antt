@@ -22,8 +22,8 @@ use Rattle.model.specs.Network.{is_gateway}
 use Rattle.model.specs.Packet.{hop_limit, bare}
 use Rattle.model.specs.Row.{held, is_other, are_nodes}
 use Rattle.model.specs.Rules.{rule}
-use Rattle.model.specs.State.{fresh, load, found_item}
-use Rattle.model.specs.Requests.{Move, refuse, unused, next_number, opening, open_move, stepped, step_move, sending, send_move, closing, close_move, dropping, drop_move}
+use Rattle.model.specs.State.{fresh, load, found_item, is_numbered}
+use Rattle.model.specs.Requests.{Move, unused, next_number, opening, open_move, stepped, step_move, sending, send_move, closing, close_move, dropping, drop_move, step_at}
 use Rattle.model.specs.Calls.{Call, call, is_accepted, after, is_own, gives_network}
 use Rattle.model.specs.Termination.{ceiling, is_counted, form_count, call_count, set_up_steps}
 use Rattle.model.proofs.Checks.{checked_either}
@@ -39,7 +39,6 @@ use Rattle.model.proofs.Tracked.{Tracks, Tracked, data_inactive, step_tracked}
 use Rattle.model.proofs.Local.{Seen, seen_move, seen_parsed, ranged_seen, local, call_own}
 use Rattle.model.proofs.Replies.{call_cases, call_others, call_network, performed_network}
 use Rattle.model.proofs.Reached.{Sound, call_sound, fresh_sound}
-use Rattle.model.proofs.Refusals.{outcome_answers}
 
 -- ---- a session's requests
 
@@ -57,9 +56,7 @@ module _ (network : Network) (t : Part) (h : Sane t) (n : ℕ) (k : Tracked netw
   unfolding stepped
   counts_step i =
       step_either network are_nodes i t (λ o m. Counts network n (cond (is_counted o) (n + 1) n) (seen_move t m)) (λ o r. k)
-      (λ at s e p.
-      rw (outcome_answers t.session.last.0 (rule network are_nodes t s.item).outcome)
-      (step_tracked network t h n k at s e p.waits))
+      (λ at s e p. step_tracked network t h n k at s e p.waits)
 
   -- the first Disc is on its way to the first point
   tracked_opening : (c d : ℕ) → unused t ≡ true → Ends network c d → Tracked network (opening t c d) 0
@@ -85,7 +82,7 @@ module _ (network : Network) (t : Part) (h : Sane t) (n : ℕ) (k : Tracked netw
   counts_open : (c d : ℕ) → Counts network n 0 (seen_move t (open_move network c d t))
   unfolding open_move
   counts_open c d =
-      checked_either (λ (m : Move). Counts network n 0 (seen_move t m)) refuse (λ r. k) _
+      checked_either (λ (m : Move). Counts network n 0 (seen_move t m)) (λ r. k) _
       (λ e.
       tracked_opening c d (not-false (unused t) e.0)
       (record { no_gateway = (neither (is_gateway network c) (is_gateway network d) e.1.1.1.0).0; apart = eqb-false c d e.1.1.0 }))
@@ -93,7 +90,7 @@ module _ (network : Network) (t : Part) (h : Sane t) (n : ℕ) (k : Tracked netw
   counts_send : (w : Sender) (tag : ℕ) → Counts network n n (seen_move t (send_move w tag t))
   unfolding send_move sending
   counts_send w tag =
-      checked_either (λ (m : Move). Counts network n n (seen_move t m)) refuse (λ r. k) _
+      checked_either (λ (m : Move). Counts network n n (seen_move t m)) (λ r. k) _
       (λ e.
       record {
         few = k.few;
@@ -104,14 +101,14 @@ module _ (network : Network) (t : Part) (h : Sane t) (n : ℕ) (k : Tracked netw
   counts_close : Counts network n n (seen_move t (close_move t))
   unfolding close_move closing
   counts_close =
-      checked_either (λ (m : Move). Counts network n n (seen_move t m)) refuse (λ r. k) _
+      checked_either (λ (m : Move). Counts network n n (seen_move t m)) (λ r. k) _
       (λ e. unused_tracked network _ (sane_empty t.session.last.0 h.last) refl n k.few)
 
   -- items and rows are apart, so that rows may go
   counts_drop : (e : ℕ) → Counts network n n (seen_move t (drop_move e t))
   unfolding drop_move dropping
   counts_drop e =
-      checked_either (λ (m : Move). Counts network n n (seen_move t m)) refuse (λ r. k) _
+      checked_either (λ (m : Move). Counts network n n (seen_move t m)) (λ r. k) _
       (λ w. record { few = k.few; items = k.items; rows = rw (held_dropping e t) (all_those _ (is_other e) (held t) k.rows) })
 
   -- ---- a line

@@ -8,6 +8,7 @@ use lib.Dec.{eqb}
 use Rattle.calculus.specs.Answer.{refusal_number}
 use Rattle.calculus.proofs.Tests.{either}
 use Rattle.calculus.specs.declared.answer.Refusal.{Refusal}
+use Rattle.std.specs.Prelude.{Result, Ok, Err}
 use Rattle.model.specs.Requests.{Check, checked}
 
 -- a test, counted
@@ -24,17 +25,17 @@ Passed [] = Unit
 Passed (c ∷ cs) = (c.0 ≡ false) × Passed cs
 
 -- what holds of every refusal, and of x where no test holds
-pub checked_either : {A : Type 0} (P : A → Type 0) (refuse : Refusal → A) → ((r : Refusal) → P (refuse r)) → (cs : List Check) {x : A}
-    → (Passed cs → P x) → P (checked refuse cs x)
+pub checked_either : {A : Type 0} (P : Result A Refusal → Type 0) → ((r : Refusal) → P (Err r)) → (cs : List Check) {x : A}
+    → (Passed cs → P (Ok x)) → P (checked cs x)
 unfolding checked
-checked_either P refuse h [] k = k tt
-checked_either P refuse h (c ∷ cs) k = either P c.0 (λ e. h c.1) (λ e. checked_either P refuse h cs (λ p. k (e, p)))
+checked_either P h [] k = k tt
+checked_either P h (c ∷ cs) k = either P c.0 (λ e. h c.1) (λ e. checked_either P h cs (λ p. k (e, p)))
 
 -- where no test holds it is x
-pub checked_passed : {A : Type 0} (refuse : Refusal → A) (cs : List Check) (x : A) → Passed cs → checked refuse cs x ≡ x
+pub checked_passed : {A : Type 0} (cs : List Check) (x : A) → Passed cs → checked cs x ≡ Ok x
 unfolding checked
-checked_passed refuse [] x p = refl
-checked_passed refuse (c ∷ cs) x p = rw p.0 (checked_passed refuse cs x p.1)
+checked_passed [] x p = refl
+checked_passed (c ∷ cs) x p = rw p.0 (checked_passed cs x p.1)
 
 -- a refusal but number 0
 abbrev pub IsWritten : Refusal → Type 0
@@ -45,8 +46,8 @@ AreWritten [] = Unit
 AreWritten (c ∷ cs) = IsWritten c.1 × AreWritten cs
 
 -- what holds of every refusal but number 0, and of x
-pub checked_written : {A : Type 0} (P : A → Type 0) (refuse : Refusal → A) → ((r : Refusal) → IsWritten r → P (refuse r))
-    → (cs : List Check) {x : A} → AreWritten cs → P x → P (checked refuse cs x)
+pub checked_written : {A : Type 0} (P : Result A Refusal → Type 0) → ((r : Refusal) → IsWritten r → P (Err r))
+    → (cs : List Check) {x : A} → AreWritten cs → P (Ok x) → P (checked cs x)
 unfolding checked
-checked_written P refuse h [] w k = k
-checked_written P refuse h (c ∷ cs) w k = either P c.0 (λ e. h c.1 w.0) (λ e. checked_written P refuse h cs w.1 k)
+checked_written P h [] w k = k
+checked_written P h (c ∷ cs) w k = either P c.0 (λ e. h c.1 w.0) (λ e. checked_written P h cs w.1 k)

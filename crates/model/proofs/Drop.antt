@@ -20,7 +20,7 @@ use Rattle.forms.specs.Request.{in_range}
 use Rattle.model.specs.Lists.{tally, those}
 use Rattle.model.specs.Row.{held, is_of, is_other, place_out, place_node, place_peer, users_of}
 use Rattle.model.specs.State.{fresh, load}
-use Rattle.model.specs.Requests.{Move, refuse, dropping, drop_move, performed}
+use Rattle.model.specs.Requests.{Move, dropping, drop_move, performed}
 use Rattle.model.specs.Calls.{Reply, Call, call, is_accepted, after, answered, requested, replied_to, one_answer}
 use Rattle.model.specs.Drop.{Drops}
 use Rattle.model.proofs.Checks.{checked_either}
@@ -65,7 +65,7 @@ module _ (t : State) (h : Sound t) (u e : ℕ) where
   unfolding requested drop_move performed
   asks_drop hu =
       let p = load t u in
-      checked_either (λ (m : Move). FairMove p m → IfAccepted u e t (one_answer (performed t u m))) refuse (λ r f w. not_accepted r w) _
+      checked_either (λ (m : Move). FairMove p m → IfAccepted u e t (one_answer (performed t u m))) (λ r f w. not_accepted r w) _
       (λ k f w.
       record {
         numbered = hu;

@@ -9,7 +9,8 @@ use lib.ListN.{length, replicate, length-append}
 use lib.Seq.{append_snoc}
 use Rattle.calculus.specs.Table.{entries_from}
 use Rattle.calculus.proofs.Tests.{within_bounds}
-use Rattle.calculus.specs.declared.answer.Answer.TheVariants.{Ok}
+use Rattle.calculus.specs.declared.answer.Answer.{Answer}
+use Rattle.std.specs.Prelude.{Ok}
 use Rattle.calculus.specs.declared.network.Network.{Network}
 use Rattle.calculus.specs.declared.network.Node as declared
 use Rattle.calculus.specs.declared.state.State.{State}
@@ -30,7 +31,7 @@ abbrev pub line_of : Form → Call
 line_of f = roomy_call (text f)
 
 abbrev pub ok : State → Reply
-ok s = record { state = s; lines = answer Ok; refusal = none }
+ok s = record { state = s; lines = answer (Ok Answer.Ok); refusal = none }
 
 pub node_ok : (n : Network) (a : ℕ) (x : declared.Node) → Node a → given n a ≡ false → IsNode x
     → call (fresh_with n) (line_of (node_of a x.kind x.has x.needs))

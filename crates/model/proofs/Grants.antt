@@ -8,8 +8,10 @@ use native.Mathlib.Omega.{arith}
 use native.Mathlib.Decide.{ℕ_discrete}
 use lib.Dec.{ltb}
 use lib.ListN.{length, replicate, length-append}
-use borrow.Author.Tests.{eq-eqb}
+use borrow.Author.Tests.{eq-eqb, leb-false}
+use Rattle.std.specs.Prelude.{Result, Ok, Err}
 use Rattle.calculus.proofs.Tests.{either}
+use Rattle.calculus.specs.declared.answer.Refusal.{Refusal}
 use Rattle.calculus.specs.declared.network.Network.{Network}
 use Rattle.calculus.specs.declared.packet.Item.{Item}
 use Rattle.calculus.specs.declared.packet.Item.TheVariants.{Wire, Out, Up, Est, Auth, Grant, Ack, Dwait, Ewait}
@@ -28,8 +30,8 @@ use Rattle.forms.specs.Request.{asked, Asked}
 use Rattle.model.specs.Lists.{All}
 use Rattle.model.specs.Row.{held, is_of, stands}
 use Rattle.model.specs.Rules.{grant_rule, rule}
-use Rattle.model.specs.State.{load, store, found_item, added_rows, applied}
-use Rattle.model.specs.Requests.{changed, refused, node_turn, route_turn, Move, refuse, moved, opening, open_move, stepped, step_move, sending, send_move, close_move, drop_move, performed}
+use Rattle.model.specs.State.{load, store, found_item, added_rows, applied, is_numbered}
+use Rattle.model.specs.Requests.{changed, refused, node_turn, route_turn, Move, opening, open_move, stepped, step_move, sending, send_move, close_move, drop_move, performed, network_turn, step_at}
 use Rattle.model.specs.Calls.{Reply, Call, call, is_accepted, after, answered, requested, replied_to, one_answer}
 use Rattle.model.specs.SetUp.{is_grant}
 use Rattle.model.specs.Drop.{Event, granted, removed, step_events, found_events, request_events, line_events, call_events, events}
@@ -47,7 +49,6 @@ use Rattle.model.proofs.Local.{fair_own}
 use Rattle.model.proofs.Replies.{numbered}
 use Rattle.model.proofs.Reached.{Sound, call_sound}
 use Rattle.model.proofs.SetUp.{step_finds_places}
-use Rattle.model.proofs.Refusals.{Answers, move_answers}
 
 -- ---- the rows that a session's move leaves
 
@@ -69,8 +70,8 @@ RowsBy u t t' (granted v e ∷ (x ∷ l)) = ⊥
 RowsBy u t t' (removed ∷ l) = Unit
 
 abbrev MoveRows : ℕ → Part → Move → List Event → Type 0
-MoveRows u t (refuse r) l = Unit
-MoveRows u t (moved a t' c) l = RowsBy u t t' l
+MoveRows u t (Err r) l = Unit
+MoveRows u t (Ok m) l = RowsBy u t m.part l
 
 grant_added : (s : Session) (a q e : ℕ) (side : Side)
     → let l = added_rows (grant_rule s a q e side).added in
@@ -143,13 +144,13 @@ module _ (s : State) (h : Sound s) where
     unfolding open_move opening send_move sending close_move drop_move
     own_rows (Node a k has needs) w = tt
     own_rows (Route a b n) w = tt
-    own_rows (Open v c d) w = checked_either (λ (m : Move). MoveRows u (load s u) m []) refuse (λ r. tt) _ (λ e. refl)
+    own_rows (Open v c d) w = checked_either (λ (m : Move). MoveRows u (load s u) m []) (λ r. tt) _ (λ e. refl)
     own_rows (Step v k) w = rw w (step_rows (load s u) (h.sane u hu) s.network (stands s.users false) u k.0)
-    own_rows (Send v x tag) w = checked_either (λ (m : Move). MoveRows u (load s u) m []) refuse (λ r. tt) _ (λ e. refl)
-    own_rows (Close v) w = checked_either (λ (m : Move). MoveRows u (load s u) m (removed ∷ [])) refuse (λ r. tt) _ (λ e. tt)
+    own_rows (Send v x tag) w = checked_either (λ (m : Move). MoveRows u (load s u) m []) (λ r. tt) _ (λ e. refl)
+    own_rows (Close v) w = checked_either (λ (m : Move). MoveRows u (load s u) m (removed ∷ [])) (λ r. tt) _ (λ e. tt)
     own_rows Show w = tt
     own_rows Net w = tt
-    own_rows (Drop v f) w = checked_either (λ (m : Move). MoveRows u (load s u) m (removed ∷ [])) refuse (λ r. tt) _ (λ e. tt)
+    own_rows (Drop v f) w = checked_either (λ (m : Move). MoveRows u (load s u) m (removed ∷ [])) (λ r. tt) _ (λ e. tt)
 
     moved_rows : (s' : State) (t' : Part) → load s' u ≡ t' → ((v : ℕ) → Numbered v → (v ≡ u → ⊥) → load s' v ≡ load s v)
         → (l : List Event) → RowsBy u (load s u) t' l → Leaves s s' l
@@ -159,25 +160,26 @@ module _ (s : State) (h : Sound s) where
     moved_rows s' t' e others (granted v f ∷ (x ∷ l)) k = k
     moved_rows s' t' e others (removed ∷ l) k = tt
 
-    performed_rows : (m : Move) → FairMove (load s u) m → Answers m → (l : List Event) → MoveRows u (load s u) m l → Replied l (one_answer (performed s u m))
+    performed_rows : (m : Move) → FairMove (load s u) m → (l : List Event) → MoveRows u (load s u) m l → Replied l (one_answer (performed s u m))
     unfolding performed
-    performed_rows (refuse r) f w l k = λ v hv. refl
-    performed_rows (moved a t c) f w l k =
-        rw w
-        (moved_rows (store (changed s c) u t) t (stored_own s h.good.sized u hu t f.whole c) (stored_others s h.good.sized u hu t f.whole c) l k)
+    performed_rows (Err r) f l k = λ v hv. refl
+    performed_rows (Ok m) f l k =
+        let t = m.part in
+        let c = m.change in
+        moved_rows (store (changed s c) u t) t (stored_own s h.good.sized u hu t f.whole c) (stored_others s h.good.sized u hu t f.whole c) l k
 
   asked_rows : (o : Option Form) (r : Asked) → Meaning o r → Replied (line_events s r) (replied_to s r)
   unfolding requested node_turn route_turn load
   asked_rows o r (refuses x w) = λ v hv. refl
   asked_rows o r (gives_node a k has needs i j n) =
-      checked_either (λ (t : Turn). Replied [] (one_answer t)) (refused s) (λ x v hv. refl) _ (λ e v hv. refl)
+      checked_either (λ (x : Result Network Refusal). Replied [] (one_answer (network_turn s x))) (λ x v hv. refl) _ (λ e v hv. refl)
   asked_rows o r (gives_route a b next n) =
-      checked_either (λ (t : Turn). Replied [] (one_answer t)) (refused s) (λ x v hv. refl) _ (λ e v hv. refl)
+      checked_either (λ (x : Result Network Refusal). Replied [] (one_answer (network_turn s x))) (λ x v hv. refl) _ (λ e v hv. refl)
   asked_rows o r (of_session q i k) =
       let u = session_in q in
       let hu = numbered u i in
       subst (Replied (request_events s q)) (sym (requested_own s q i))
-      (performed_rows u hu (move_in s u q) (fair_own s h.good u hu q) (move_answers s.network (stands s.users false) q (load s u)) (request_events s q)
+      (performed_rows u hu (move_in s u q) (fair_own s h.good u hu q) (request_events s q)
       (own_rows u hu q refl))
   asked_rows o r (shows k) = λ v hv. refl
   asked_rows o r (gives_back k) = λ v hv. refl

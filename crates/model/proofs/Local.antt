@@ -2,14 +2,14 @@
 use mathlib.Core.Path.{◌≡◌, refl, sym, ap, ◌∙◌}
 use mathlib.Core.Bool.{Bool, true, false, cond, ◌&&◌, ◌||◌}
 use mathlib.Core.List.{[]}
-use mathlib.Core.Option.{Option, some}
+use mathlib.Core.Option.{Option, none, some}
 use Prim.Native.Nat.{ℕ}
 use native.Mathlib.Omega.{arith}
 use lib.Dec.{ltb}
 use borrow.Author.Tests.{lt-ltb, eqb-true}
 use Rattle.std.specs.Prelude as std
+use Rattle.std.specs.Prelude.{Ok, Err, Some, None}
 use Rattle.calculus.proofs.Tests.{never}
-use Rattle.calculus.specs.declared.answer.Answer.TheVariants.{No}
 use Rattle.calculus.specs.declared.answer.Refusal.{Refusal}
 use Rattle.calculus.specs.declared.answer.Refusal.TheVariants.{Range, Short}
 use Rattle.calculus.specs.declared.network.Network.{Network}
@@ -27,7 +27,7 @@ use Rattle.forms.specs.Request.{in_range, asked, Asked}
 use Rattle.model.specs.Row.{held, admits, are_nodes, users_of, stands}
 use Rattle.model.specs.Rules.{admitted, up_rule, rule}
 use Rattle.model.specs.State.{load}
-use Rattle.model.specs.Requests.{Move, refuse, moved, step_at, step_move, performed}
+use Rattle.model.specs.Requests.{Move, step_at, step_move, performed}
 use Rattle.model.specs.Calls.{Lines, answer, report, Reply, Call, call, answered, replied_to, refusal_in, one_answer, short, form_names, is_own}
 use Rattle.model.proofs.Parts.{Numbered, load_whole}
 use Rattle.model.proofs.Users.{admits_some}
@@ -48,8 +48,8 @@ and_same false false b h = refl
 -- where an in row of this part tells that its association stands, no rule reads what stands
 module _ (n : Network) (standing : ℕ → ℕ → Bool) (t : Part) (h : (a q : ℕ) → admits (held t) a q ≡ true → standing a q ≡ are_nodes a q) where
   admitted_same : (a : ℕ) (x : std.Option Header) → admitted standing (held t) a x ≡ admitted are_nodes (held t) a x
-  admitted_same a std.None = refl
-  admitted_same a (std.Some x) = let q = x.from in and_same (standing a q) (are_nodes a q) (admits (held t) a q) (h a q)
+  admitted_same a None = refl
+  admitted_same a (Some x) = let q = x.from in and_same (standing a q) (are_nodes a q) (admits (held t) a q) (h a q)
 
   rule_same : (i : Item) → rule n standing t i ≡ rule n are_nodes t i
   unfolding rule up_rule
@@ -65,8 +65,8 @@ module _ (n : Network) (standing : ℕ → ℕ → Bool) (t : Part) (h : (a q : 
 
   step_same : (o : std.Option (ℕ × Slot)) → step_at n standing t o ≡ step_at n are_nodes t o
   unfolding step_at
-  step_same std.None = refl
-  step_same (std.Some (at, s)) = simp rule_same
+  step_same None = refl
+  step_same (Some (at, s)) = simp rule_same
 
   move_same : (q : request.Request) → own_move n standing q t ≡ own_move n are_nodes q t
   unfolding step_move
@@ -108,15 +108,15 @@ abbrev pub seen : ℕ → Reply → Seen
 seen u r = record { part = load r.state u; lines = r.lines; refusal = r.refusal }
 
 abbrev pub seen_move : Part → Move → Seen
-seen_move t (refuse r) = record { part = t; lines = answer (No r); refusal = some r }
-seen_move t (moved a t' c) = record { part = t'; lines = answer a; refusal = refusal_in a }
+seen_move t (Err r) = record { part = t; lines = answer (Err r); refusal = some r }
+seen_move t (Ok m) = record { part = m.part; lines = answer (Ok m.answer); refusal = none }
 
 abbrev pub seen_parsed : Network → Part → Asked → Seen
-seen_parsed n t (std.Ok q) = seen_move t (own_move n are_nodes q t)
-seen_parsed n t (std.Err r) = seen_move t (refuse r)
+seen_parsed n t (Ok q) = seen_move t (own_move n are_nodes q t)
+seen_parsed n t (Err r) = seen_move t (Err r)
 
 -- what holds of a refusal, and of a request's move, holds of a line that asks for it, its numbers in range or not
-pub ranged_seen : (P : Seen → Type 0) (n : Network) (t : Part) → P (seen_move t (refuse Range)) → (ok : Bool) (q : request.Request)
+pub ranged_seen : (P : Seen → Type 0) (n : Network) (t : Part) → P (seen_move t (Err Range)) → (ok : Bool) (q : request.Request)
     → P (seen_move t (own_move n are_nodes q t)) → P (seen_parsed n t (in_range ok q))
 ranged_seen P n t r true q h = h
 ranged_seen P n t r false q h = r
@@ -130,18 +130,18 @@ local n t c =
 module _ (s : State) (g : Good s) (u : ℕ) (hu : Numbered u) where
   pub performed_own : (m : Move) → FairMove (load s u) m → seen u (one_answer (performed s u m)) ≡ seen_move (load s u) m
   unfolding performed
-  performed_own (refuse r) f = refl
-  performed_own (moved a t c) f = rw (stored_own s g.sized u hu t f.whole c)
+  performed_own (Err r) f = refl
+  performed_own (Ok m) f = rw (stored_own s g.sized u hu m.part f.whole m.change)
 
   pub performed_others : (m : Move) → FairMove (load s u) m → (v : ℕ) → Numbered v → (v ≡ u → ⊥) → load (performed s u m).state v ≡ load s v
   unfolding performed
-  performed_others (refuse r) f v hv ne = refl
-  performed_others (moved a t c) f v hv ne = stored_others s g.sized u hu t f.whole c v hv ne
+  performed_others (Err r) f v hv ne = refl
+  performed_others (Ok m) f v hv ne = stored_others s g.sized u hu m.part f.whole m.change v hv ne
 
   pub performed_good : (m : Move) → FairMove (load s u) m → Good (performed s u m).state
   unfolding performed
-  performed_good (refuse r) f = g
-  performed_good (moved a t c) f = stored_good s g u hu t c f
+  performed_good (Err r) f = g
+  performed_good (Ok m) f = stored_good s g u hu m.part m.change f
 
   own_seen : (q : request.Request) → seen u (one_answer (performed s u (move_in s u q))) ≡ seen_move (load s u) (own_move s.network are_nodes q (load s u))
   own_seen q =

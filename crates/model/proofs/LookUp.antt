@@ -7,7 +7,9 @@ use lib.Dec.{eqb}
 use Rattle.std.specs.Prelude.{Option, Some, None, is_some}
 use borrow.Author.Tests.{eqb-true, ne_eqb, not-false}
 use Rattle.calculus.specs.Number.{is_node}
-use Rattle.calculus.specs.declared.answer.Answer.TheVariants.{Ok}
+use Rattle.calculus.specs.declared.answer.Answer.{Answer}
+use Rattle.calculus.specs.declared.answer.Refusal.{Refusal}
+use Rattle.std.specs.Prelude.{Result, Ok, Err}
 use Rattle.calculus.specs.declared.network.Network.{Network}
 use Rattle.calculus.specs.declared.network.NextHop.TheVariants.{Exact}
 use Rattle.calculus.specs.declared.state.State.{State}
@@ -15,7 +17,7 @@ use Rattle.calculus.specs.declared.state.Turn.{Turn}
 use Rattle.calculus.proofs.Tests.{Way, is, isnt, way, clash, never, not_so, both, within_bounds}
 use Rattle.model.specs.Network.{route_to, is_routed, hop, next_hop}
 use Rattle.model.specs.State.{fresh}
-use Rattle.model.specs.Requests.{refused, with_route, nodes_given, route_checks, route_turn}
+use Rattle.model.specs.Requests.{network_turn, refused, with_route, nodes_given, route_checks, route_turn}
 use Rattle.model.specs.GivenBack.{Consistent}
 use Rattle.model.specs.LookUp.{with_default, LookUp}
 use Rattle.model.proofs.Checks.{checked_either}
@@ -92,10 +94,10 @@ default_set n h a next r free x y j = go (way (is_node x)) (way (eqb x a))
 -- what holds of the network with the route, where no test holds, holds of what an accepted call leaves
 route_accepted : (P : Network → Type 0) (s : State) (a b next : ℕ)
     → (InRange a b next → is_routed s.network a b ≡ false → P (with_route s.network a b next))
-    → (route_turn s a b next).answer ≡ Ok → P (route_turn s a b next).state.network
+    → (route_turn s a b next).answer ≡ Ok Answer.Ok → P (route_turn s a b next).state.network
 unfolding route_turn
 route_accepted P s a b next k =
-    checked_either (λ (t : Turn). t.answer ≡ Ok → P t.state.network) (refused s) (λ r e. clash cc)
+    checked_either (λ (x : Result Network Refusal). let t = network_turn s x in t.answer ≡ Ok Answer.Ok → P t.state.network) (λ r e. clash cc)
     (route_checks s.opened s.network a b next)
     (λ p e. k (nodes_range s.network a b next (not-false (nodes_given s.network a b next) p.1.0)) p.1.1.1.0)
 

@@ -8,6 +8,7 @@ use native.Mathlib.Decide.{dec_lt}
 use native.Mathlib.Nat.{add-zero}
 use lib.ListN.{length, take, length-take}
 use lib.Seq.{sets, length-sets}
+use Rattle.std.specs.Prelude.{Ok, Err}
 use Rattle.calculus.proofs.Tests.{never}
 use Rattle.std.specs.Prelude.{Option, Some, None}
 use Rattle.calculus.specs.declared.effect.Effect.{Effect}
@@ -20,7 +21,7 @@ use Rattle.calculus.specs.declared.state.Part.{Part}
 use Rattle.model.specs.Lists.{those}
 use Rattle.model.specs.Row.{held, is_of, is_other, how_many}
 use Rattle.model.specs.State.{placed, added_rows, session_after, applied}
-use Rattle.model.specs.Requests.{Change, Move, refuse, moved, no_rows, unused, next_number, with_item, opening, open_move, stepped, step_move, sending, send_move, closing, close_move, dropping, drop_move}
+use Rattle.model.specs.Requests.{Change, Move, no_rows, unused, next_number, with_item, opening, open_move, stepped, step_move, sending, send_move, closing, close_move, dropping, drop_move, step_at}
 use Rattle.model.proofs.Checks.{checked_either}
 use Rattle.model.proofs.Steps.{step_either}
 use Rattle.model.proofs.Parts.{Whole}
@@ -84,11 +85,11 @@ pub record Fair (t t' : Part) (c : Change) : Type 0 where
   pub opens : c.opens ≡ false → unused t ≡ true → unused t' ≡ true
 
 abbrev pub FairMove : Part → Move → Type 0
-FairMove t (refuse r) = Unit
-FairMove t (moved a t' c) = Fair t t' c
+FairMove t (Err r) = Unit
+FairMove t (Ok m) = Fair t m.part m.change
 
 module _ (t : Part) (h : Whole t) where
-  fair_stepped : unused t ≡ false → (at : ℕ) (f : Effect) → FairMove t (stepped t at f)
+  fair_stepped : unused t ≡ false → (at : ℕ) (f : Effect) → FairMove t (Ok (stepped t at f))
   unfolding stepped how_many
   fair_stepped u at f =
       record {
@@ -115,16 +116,16 @@ module _ (t : Part) (h : Whole t) where
 
   pub fair_open : (n : Network) (c d : ℕ) → FairMove t (open_move n c d t)
   unfolding open_move opening
-  fair_open n c d = checked_either (FairMove t) refuse (λ r. tt) _ (λ e. fair_item _ _ _ _ _ (λ o. never (sym o)))
+  fair_open n c d = checked_either (FairMove t) (λ r. tt) _ (λ e. fair_item _ _ _ _ _ (λ o. never (sym o)))
 
   pub fair_send : (w : Sender) (tag : ℕ) → FairMove t (send_move w tag t)
   unfolding send_move sending
-  fair_send w tag = checked_either (FairMove t) refuse (λ r. tt) _ (λ e. fair_item _ _ _ _ _ (λ o. e.0))
+  fair_send w tag = checked_either (FairMove t) (λ r. tt) _ (λ e. fair_item _ _ _ _ _ (λ o. e.0))
 
   pub fair_close : FairMove t (close_move t)
   unfolding close_move closing
   fair_close =
-      checked_either (FairMove t) refuse (λ r. tt) _
+      checked_either (FairMove t) (λ r. tt) _
       (λ e.
       record {
         whole = omega arith;
@@ -137,7 +138,7 @@ module _ (t : Part) (h : Whole t) where
   pub fair_drop : (e : ℕ) → FairMove t (drop_move e t)
   unfolding drop_move how_many
   fair_drop e =
-      checked_either (FairMove t) refuse (λ r. tt) _
+      checked_either (FairMove t) (λ r. tt) _
       (λ k.
       record {
         whole = dropping_whole e t h;

@@ -4,6 +4,7 @@ use mathlib.Core.List.{List, []}
 use Prim.Native.Nat.{ℕ, ◌+◌}
 use native.Mathlib.Omega.{arith}
 use lib.Dec.{ltb}
+use Rattle.std.specs.Prelude.{Ok, Err}
 use Rattle.calculus.proofs.Tests.{either}
 use Rattle.calculus.specs.declared.effect.Outcome.{Outcome}
 use Rattle.calculus.specs.declared.effect.Outcome.TheVariants.{Wrote, WroteByDefault, WroteTwo, Lost, Denied, Opened, Delivered}
@@ -11,13 +12,12 @@ use Rattle.calculus.specs.declared.effect.Effect.{Effect}
 use Rattle.calculus.specs.declared.network.Network.{Network}
 use Rattle.calculus.specs.declared.request.Request as request
 use Rattle.calculus.specs.declared.state.Part.{Part}
-use Rattle.std.specs.Prelude as std
 use Rattle.forms.specs.Read.{read}
 use Rattle.forms.specs.Request.{Asked, asked}
 use Rattle.model.specs.Lists.{up_from}
 use Rattle.model.specs.Row.{are_nodes}
 use Rattle.model.specs.State.{answer_of, written_count, applied, session_after}
-use Rattle.model.specs.Requests.{Move, refuse, opening, open_move, stepped, sending, send_move, closing, close_move, dropping, drop_move}
+use Rattle.model.specs.Requests.{Move, opening, open_move, stepped, sending, send_move, closing, close_move, dropping, drop_move, step_at, step_move}
 use Rattle.model.specs.Calls.{Call}
 use Rattle.model.specs.Noninterference.{numbers_in, numbers_in_lines}
 use Rattle.model.proofs.Checks.{checked_either}
@@ -42,7 +42,7 @@ unfolding up_from
 issued_none t = record { many = 0; last = omega arith; carried = refl }
 
 -- the answer of an outcome carries the numbers of the items written
-answer_numbers : (n : ℕ) (o : Outcome) → numbers_in (answer_of n o) ≡ up_from n (written_count o)
+answer_numbers : (n : ℕ) (o : Outcome) → numbers_in (Ok (answer_of n o)) ≡ up_from n (written_count o)
 unfolding up_from
 answer_numbers n (Wrote i) = refl
 answer_numbers n (WroteByDefault i) = refl
@@ -53,7 +53,7 @@ answer_numbers n Opened = refl
 answer_numbers n (Delivered tag) = refl
 
 module _ (t : Part) where
-  step_issues : (at : ℕ) (f : Effect) → IssuesMove t (stepped t at f)
+  step_issues : (at : ℕ) (f : Effect) → IssuesMove t (Ok (stepped t at f))
   unfolding stepped applied session_after
   step_issues at f = record { many = written_count f.outcome; last = refl; carried = answer_numbers t.session.last.0 f.outcome }
 
@@ -61,15 +61,15 @@ module _ (t : Part) where
   unfolding open_move opening send_move sending close_move closing drop_move dropping up_from
   move_issues n q =
       own_cases (IssuesMove t) n are_nodes q t (issued_none t)
-      (λ c d. checked_either (IssuesMove t) refuse (λ r. issued_none t) _ (λ e. record { many = 1; last = refl; carried = refl }))
+      (λ c d. checked_either (IssuesMove t) (λ r. issued_none t) _ (λ e. record { many = 1; last = refl; carried = refl }))
       (λ k. step_either n are_nodes k t (λ o. IssuesMove t) (λ o r. issued_none t) (λ at s e p. step_issues at _))
-      (λ w tag. checked_either (IssuesMove t) refuse (λ r. issued_none t) _ (λ e. record { many = 1; last = refl; carried = refl }))
-      (checked_either (IssuesMove t) refuse (λ r. issued_none t) _ (λ e. record { many = 0; last = omega arith; carried = refl }))
-      (λ e. checked_either (IssuesMove t) refuse (λ r. issued_none t) _ (λ k. record { many = 0; last = omega arith; carried = refl }))
+      (λ w tag. checked_either (IssuesMove t) (λ r. issued_none t) _ (λ e. record { many = 1; last = refl; carried = refl }))
+      (checked_either (IssuesMove t) (λ r. issued_none t) _ (λ e. record { many = 0; last = omega arith; carried = refl }))
+      (λ e. checked_either (IssuesMove t) (λ r. issued_none t) _ (λ k. record { many = 0; last = omega arith; carried = refl }))
 
   parsed_issues : (n : Network) (p : Asked) → Issues t (seen_parsed n t p)
-  parsed_issues n (std.Ok q) = move_issues n q
-  parsed_issues n (std.Err r) = issued_none t
+  parsed_issues n (Ok q) = move_issues n q
+  parsed_issues n (Err r) = issued_none t
 
   pub local_issues : (n : Network) (c : Call) → Issues t (local n t c)
   unfolding local

@@ -21,7 +21,7 @@ use Rattle.model.specs.Row.{are_nodes}
 use Rattle.model.specs.Rules.{rule}
 use Rattle.model.specs.Item.{is_wait, slot_at}
 use Rattle.model.specs.State.{load, is_numbered, found_item}
-use Rattle.model.specs.Requests.{Move, refuse, unused, spent, stepped, step_at, step_move}
+use Rattle.model.specs.Requests.{Move, unused, spent, stepped, step_at, step_move}
 use Rattle.model.specs.Calls.{answered, roomy_call, form_names}
 use Rattle.model.specs.SetUp.{is_set_up_item}
 use Rattle.model.specs.Termination.{is_counted, call_count, is_active, form_opens}
@@ -34,7 +34,6 @@ use Rattle.model.proofs.Tracked.{Inactive}
 use Rattle.model.proofs.Local.{Seen, seen_move, local, call_own}
 use Rattle.model.proofs.Replies.{numbered}
 use Rattle.model.proofs.Reached.{Sound}
-use Rattle.model.proofs.Refusals.{outcome_answers}
 
 module _ (t : Part) (h : Sane t) (at : ℕ) (s : Slot) (b : slot_at t.items at ≡ Some s) (e : is_active s.item ≡ true) where
   abbrev number : ℕ
@@ -72,8 +71,7 @@ module _ (t : Part) (h : Sane t) (at : ℕ) (s : Slot) (b : slot_at t.items at �
   unfolding step_move step_at stepped
   accepted net l =
       ap (λ (x : Option (ℕ × Slot)). (seen_move t (step_at net are_nodes t x)).refusal) at_its_place
-      ∙ ap (λ (m : Move). (seen_move t m).refusal) (checked_passed refuse _ _ (in_use, (no_wait, (l, tt))))
-      ∙ outcome_answers t.session.last.0 (rule net are_nodes t item).outcome
+      ∙ ap (λ (m : Move). (seen_move t m).refusal) (checked_passed _ _ (in_use, (no_wait, (l, tt))))
 
 -- ---- its call
 

@@ -5,6 +5,7 @@ use mathlib.Core.List.{List, [], ◌∷◌}
 use Prim.Native.Nat.{ℕ}
 use native.Mathlib.Omega.{arith}
 use native.Mathlib.Decide.{ℕ_discrete}
+use Rattle.std.specs.Prelude.{Ok, Err}
 use Rattle.calculus.proofs.Tests.{neither}
 use Rattle.calculus.specs.declared.network.Network.{Network}
 use Rattle.calculus.specs.declared.request.Request as request
@@ -12,7 +13,7 @@ use Rattle.calculus.specs.declared.state.Part.{Part}
 use Rattle.calculus.specs.declared.state.State.{State}
 use Rattle.model.specs.Row.{stands}
 use Rattle.model.specs.State.{fresh, load, store}
-use Rattle.model.specs.Requests.{Move, refuse, moved, unused, changed, performed}
+use Rattle.model.specs.Requests.{Move, unused, changed, performed}
 use Rattle.model.specs.Calls.{Call, call, after}
 use Rattle.model.proofs.Parts.{Numbered}
 use Rattle.model.specs.GivenBack.{Consistent}
@@ -37,14 +38,14 @@ consistent_given n n' (by_node a k has needs i j) h = consistent_node n a k has 
 consistent_given n n' (by_route a b next e f) h = consistent_route n a b next e f h
 
 sane_after : (t : Part) (m : Move) → Sane t → SaneMove m → Sane (seen_move t m).part
-sane_after t (refuse r) h k = h
-sane_after t (moved a t' c) h k = k
+sane_after t (Err r) h k = h
+sane_after t (Ok m) h k = k
 
 early_after : (s : State) (u : ℕ) (m : Move) → FairMove (load s u) m → (s.opened ≡ false → unused (load s u) ≡ true)
     → (performed s u m).state.opened ≡ false → unused (seen_move (load s u) m).part ≡ true
 unfolding performed store changed
-early_after s u (refuse r) f h e = h e
-early_after s u (moved a t c) f h e = let o = neither c.opens s.opened e in f.opens o.0 (h o.1)
+early_after s u (Err r) f h e = h e
+early_after s u (Ok m) f h e = let o = neither m.change.opens s.opened e in f.opens o.0 (h o.1)
 
 module _ (s : State) (h : Sound s) where
   sane_own : (u : ℕ) → Numbered u → (q : request.Request) → SaneMove (move_in s u q)

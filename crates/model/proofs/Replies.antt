@@ -6,8 +6,10 @@ use Prim.Native.Nat.{ℕ}
 use native.Mathlib.Omega.{arith}
 use lib.Dec.{ltb, eqb}
 use borrow.Author.Tests.{eqb-false, not-false}
+use Rattle.std.specs.Prelude.{Result, Ok, Err}
 use Rattle.calculus.specs.Number.{is_session}
 use Rattle.calculus.proofs.Tests.{within_bounds, never, neither, either}
+use Rattle.calculus.specs.declared.answer.Refusal.{Refusal}
 use Rattle.calculus.specs.declared.network.Kind.{Kind}
 use Rattle.calculus.specs.declared.network.Network.{Network}
 use Rattle.calculus.specs.declared.request.Request as request
@@ -16,7 +18,7 @@ use Rattle.calculus.specs.declared.state.Turn.{Turn}
 use Rattle.forms.specs.Read.{read}
 use Rattle.forms.specs.Request.{Asked, asked}
 use Rattle.model.specs.State.{load, store}
-use Rattle.model.specs.Requests.{refused, accepted, with_node, with_route, nodes_given, leads_back, node_turn, route_turn, Move, refuse, moved, changed, performed}
+use Rattle.model.specs.Requests.{network_turn, refused, accepted, with_node, with_route, nodes_given, leads_back, node_turn, route_turn, Move, changed, performed}
 use Rattle.model.specs.Calls.{Reply, Call, call, answered, requested, replied_to, gives_network, is_own}
 use Rattle.model.proofs.Checks.{checked_either}
 use Rattle.model.proofs.Parts.{Numbered}
@@ -41,9 +43,9 @@ module _ (P : State → Type 0) (s : State) (c : Call) (same : P s)
   unfolding requested node_turn route_turn
   asked_cases r (refuses x w) = same
   asked_cases r (gives_node a k has needs i j n) =
-      checked_either (λ (t : Turn). P t.state) (refused s) (λ x. same) _ (λ e. gives n e.0 _ (by_node a k has needs i j))
+      checked_either (λ (x : Result Network Refusal). P (network_turn s x).state) (λ x. same) _ (λ e. gives n e.0 _ (by_node a k has needs i j))
   asked_cases r (gives_route a b next n) =
-      checked_either (λ (t : Turn). P t.state) (refused s) (λ x. same) _
+      checked_either (λ (x : Result Network Refusal). P (network_turn s x).state) (λ x. same) _
       (λ e. gives n e.0 _ (by_route a b next (not-false (nodes_given s.network a b next) e.1.0) e.1.1.0))
   asked_cases r (of_session q i h) = subst (λ (x : Reply). P x.state) (sym (requested_own s q i)) (moves q i h)
   asked_cases r (shows h) = same
@@ -71,13 +73,13 @@ given_good s n g =
 
 pub performed_network : (s : State) (u : ℕ) (m : Move) → (performed s u m).state.network ≡ s.network
 unfolding performed store changed
-performed_network s u (refuse r) = refl
-performed_network s u (moved a t c) = refl
+performed_network s u (Err r) = refl
+performed_network s u (Ok m) = refl
 
 pub performed_opened : (s : State) (u : ℕ) (m : Move) → (performed s u m).state.opened ≡ false → s.opened ≡ false
 unfolding performed store changed
-performed_opened s u (refuse r) e = e
-performed_opened s u (moved a t c) e = (neither c.opens s.opened e).1
+performed_opened s u (Err r) e = e
+performed_opened s u (Ok m) e = (neither m.change.opens s.opened e).1
 
 module _ (s : State) (g : Good s) (c : Call) where
   pub call_good : Good (call s c).state

@@ -7,7 +7,7 @@ use native.Mathlib.Omega.{arith}
 use lib.Dec.{leb}
 use lib.ListN.{set}
 use borrow.Author.Tests.{ltb-false, leb-false, eqb-false, not-false}
-use Rattle.std.specs.Prelude.{Option, Some, None, is_some}
+use Rattle.std.specs.Prelude.{Option, Some, None, is_some, Ok, Err}
 use Rattle.calculus.proofs.Tests.{both, never}
 use Rattle.calculus.specs.declared.effect.Outcome.{Outcome}
 use Rattle.calculus.specs.declared.effect.Outcome.TheVariants.{Wrote, WroteByDefault, WroteTwo, Lost, Denied, Opened, Delivered}
@@ -29,7 +29,8 @@ use Rattle.model.specs.Row.{held, is_other}
 use Rattle.model.specs.Rules.{rule}
 use Rattle.model.specs.State.{set_found, use_up, put_item, written, written_count, stage_after, added_rows, placed, items_after, session_after, applied}
 use Rattle.model.specs.GivenBack.{Consistent}
-use Rattle.model.specs.Requests.{Move, refuse, moved, is_unused, unused, spent, next_number, with_item, opening, open_move, stepped, step_move, sending, send_move, closing, close_move, dropping, drop_move}
+use Rattle.model.specs.Requests.{Move, is_unused, unused, spent, next_number, with_item, opening, open_move, stepped, step_move, sending, send_move, closing, close_move, dropping, drop_move, step_at}
+
 use Rattle.model.proofs.Checks.{checked_either}
 use Rattle.model.specs.Lists.{tally, All}
 use Rattle.model.proofs.Lists.{all_set, all_get, all_append, all_take, all_replicate, all_map, all_those, none_tallied, tally_none}
@@ -122,8 +123,8 @@ pub record Sane (t : Part) : Type 0 where
   pub idle : unused t ≡ true → (t.session.rows ≡ 0) × (t.session.begun ≡ 0)
 
 abbrev pub SaneMove : Move → Type 0
-SaneMove (refuse r) = Unit
-SaneMove (moved a t c) = Sane t
+SaneMove (Err r) = Unit
+SaneMove (Ok m) = Sane m.part
 
 pub sane_empty : (last : ℕ) → last ≤ 1000000 → Sane (emptied last)
 sane_empty last b =
@@ -222,7 +223,7 @@ module _ (t : Part) (h : Sane t) where
   pub sane_open : (n : Network) (c d : ℕ) → SaneMove (open_move n c d t)
   unfolding open_move
   sane_open n c d =
-      checked_either SaneMove refuse (λ r. tt) _
+      checked_either SaneMove (λ r. tt) _
       (λ e.
       let k = both (given n c) (given n d) (not-false (given n c && given n d) e.1.0) in
       sane_opening c d (not-false (unused t) e.0) e.1.1.1.1.0 (given_node n c k.0) (given_node n d k.1) (eqb-false c d e.1.1.0))
@@ -250,11 +251,11 @@ module _ (t : Part) (h : Sane t) where
   pub sane_send : (w : Sender) (tag : ℕ) → SaneMove (send_move w tag t)
   unfolding send_move
   sane_send w tag =
-      checked_either SaneMove refuse (λ r. tt) _ (λ e. sane_sending e.0 e.1.0 e.1.1.0 tag w)
+      checked_either SaneMove (λ r. tt) _ (λ e. sane_sending e.0 e.1.0 e.1.1.0 tag w)
 
   pub sane_close : SaneMove (close_move t)
   unfolding close_move closing
-  sane_close = checked_either SaneMove refuse (λ r. tt) _ (λ e. sane_empty t.session.last.0 h.last)
+  sane_close = checked_either SaneMove (λ r. tt) _ (λ e. sane_empty t.session.last.0 h.last)
 
   -- ---- drop
 
@@ -273,4 +274,4 @@ module _ (t : Part) (h : Sane t) where
 
   pub sane_drop : (e : ℕ) → SaneMove (drop_move e t)
   unfolding drop_move
-  sane_drop e = checked_either SaneMove refuse (λ r. tt) _ (λ k. sane_dropping e k.0)
+  sane_drop e = checked_either SaneMove (λ r. tt) _ (λ k. sane_dropping e k.0)

@@ -21,8 +21,8 @@ use Rattle.forms.specs.Request.{asked}
 use Rattle.model.specs.Lists.{All}
 use Rattle.model.specs.Row.{are_nodes}
 use Rattle.model.specs.Rules.{rule}
-use Rattle.model.specs.State.{load, found_item, applied}
-use Rattle.model.specs.Requests.{Move, refuse, spent, next_number, stepped, step_move, data_item, sending, send_move, closing, close_move, dropping, drop_move}
+use Rattle.model.specs.State.{load, found_item, applied, is_numbered}
+use Rattle.model.specs.Requests.{Move, spent, next_number, stepped, step_move, data_item, sending, send_move, closing, close_move, dropping, drop_move, step_at}
 use Rattle.model.specs.Calls.{Call, call, is_accepted, form_names, is_own}
 use Rattle.model.specs.Termination.{is_counted, form_count, call_count, is_active, Settled, form_opens, opens}
 use Rattle.model.proofs.Checks.{checked_either}
@@ -60,18 +60,18 @@ module _ (network : Network) (t : Part) (k : Settled t) where
   settled_send : (w : Sender) (tag : ℕ) → Stays (seen_move t (send_move w tag t))
   unfolding send_move sending
   settled_send w tag =
-      checked_either (λ (m : Move). Stays (seen_move t m)) refuse (λ r. k) _
+      checked_either (λ (m : Move). Stays (seen_move t m)) (λ r. k) _
       (λ e l.
       items_none is_active (sending t w tag).items
       (all_put Inactive t.items (next_number t) (data_item t.session w tag) (inactive e.1.1.0) (data_inactive t.session w tag)))
 
   settled_close : Stays (seen_move t (close_move t))
   unfolding close_move closing
-  settled_close = checked_either (λ (m : Move). Stays (seen_move t m)) refuse (λ r. k) _ (λ e l. refl)
+  settled_close = checked_either (λ (m : Move). Stays (seen_move t m)) (λ r. k) _ (λ e l. refl)
 
   settled_drop : (e : ℕ) → Stays (seen_move t (drop_move e t))
   unfolding drop_move dropping
-  settled_drop e = checked_either (λ (m : Move). Stays (seen_move t m)) refuse (λ r. k) _ (λ w. k)
+  settled_drop e = checked_either (λ (m : Move). Stays (seen_move t m)) (λ r. k) _ (λ w. k)
 
   -- ---- a line
 

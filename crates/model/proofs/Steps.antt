@@ -4,7 +4,7 @@ use mathlib.Core.Bool.{Bool, true, false}
 use mathlib.Core.List.{List}
 use Prim.Native.Nat.{ℕ, ◌≤◌}
 use lib.ListN.{length}
-use Rattle.std.specs.Prelude.{Option, Some, None, option_map, option_and_then, position}
+use Rattle.std.specs.Prelude.{Option, Some, None, Ok, Err, option_map, option_and_then, position}
 use Rattle.std.proofs.lemmas.Option.{same_Some}
 use Rattle.calculus.specs.declared.answer.Refusal.{Refusal}
 use Rattle.calculus.specs.declared.answer.Refusal.TheVariants.{NoItem}
@@ -15,7 +15,7 @@ use Rattle.model.specs.Lists.{tally}
 use Rattle.model.specs.Item.{is_wait, slot_at}
 use Rattle.model.specs.Rules.{rule}
 use Rattle.model.specs.State.{is_numbered, found_item}
-use Rattle.model.specs.Requests.{Move, refuse, unused, spent, stepped, step_at, step_move}
+use Rattle.model.specs.Requests.{Move, unused, spent, stepped, step_at, step_move}
 use Rattle.model.proofs.Checks.{checked_either}
 use Rattle.model.proofs.Lists.{position_once}
 use Rattle.model.proofs.Weights.{slot_below}
@@ -54,14 +54,14 @@ pub record Stepping (t : Part) (s : Slot) : Type 0 where
 
 -- what holds of each refusal, and of each step of an item in its place, holds of the move
 pub step_either : (n : Network) (standing : ℕ → ℕ → Bool) (k : ℕ) (t : Part) (P : Option (ℕ × Slot) → Move → Type 0)
-    → ((o : Option (ℕ × Slot)) (r : Refusal) → P o (refuse r))
-    → ((at : ℕ) (s : Slot) → slot_at t.items at ≡ Some s → Stepping t s → P (Some (at, s)) (stepped t at (rule n standing t s.item)))
+    → ((o : Option (ℕ × Slot)) (r : Refusal) → P o (Err r))
+    → ((at : ℕ) (s : Slot) → slot_at t.items at ≡ Some s → Stepping t s → P (Some (at, s)) (Ok (stepped t at (rule n standing t s.item))))
     → P (found_item k t.items) (step_move n standing k t)
 unfolding step_move step_at
 step_either n standing k t P refused made = go (found_item k t.items) refl
   where
     go : (o : Option (ℕ × Slot)) → found_item k t.items ≡ o → P o (step_at n standing t o)
-    go None e = checked_either (P None) refuse (refused None) _ (λ p. refused None NoItem)
+    go None e = refused None _
     go (Some (at, s)) e =
-        checked_either (P (Some (at, s))) refuse (refused (Some (at, s))) _
+        checked_either (P (Some (at, s))) (refused (Some (at, s))) _
         (λ p. made at s (numbered_at k t.items at s e) (record { used = p.0; waits = p.1.0; left = p.1.1.0 }))

@@ -8,25 +8,24 @@ use native.Mathlib.Decide.{ℕ_discrete}
 use native.Mathlib.Nat.{mul-zero, mul-suc, add-sub_cancel}
 use lib.ListN.{length, get_or, set, take, drop, length-set, take-append-drop}
 use lib.Seq.{paste, take_all, take-take, take-add, ext_get_or, set-get_or, get_or-set_same, get_or-set_other}
+use Rattle.std.specs.Prelude.{Result, Ok, Err, is_ok}
 use Rattle.calculus.specs.declared.answer.Answer.{Answer}
-use Rattle.calculus.specs.declared.answer.Answer.TheVariants.{Ok, No}
 use Rattle.calculus.specs.declared.answer.Refusal.{Refusal}
 use Rattle.calculus.specs.declared.network.Network.{Network}
 use Rattle.calculus.specs.declared.request.Request as request
 use Rattle.calculus.specs.declared.request.Request.TheVariants.{Node, Route, Open, Step, Send, Close, Show, Net, Drop}
 use Rattle.calculus.specs.declared.request.Sender.{Sender}
-use Rattle.calculus.specs.declared.state.Moved.{Moved}
 use Rattle.calculus.specs.declared.state.Part.{Part}
 use Rattle.calculus.specs.declared.state.State.{State}
 use Rattle.calculus.specs.declared.state.Turn.{Turn}
-use Rattle.std.specs.Prelude as std
 use Rattle.forms.specs.Request.{Asked}
 use Rattle.model.specs.Row.{one_more, one_less, lowered, stands}
 use Rattle.model.specs.State.{load, store, blank_session}
-use Rattle.model.specs.Requests.{Check, checked, refused, accepted, node_turn, route_turn, Move, refuse, moved, open_move, step_move, send_move, close_move, drop_move, changed, performed}
+use Rattle.model.specs.Requests.{Check, checked, refused, accepted, network_turn, node_turn, route_turn, Move, open_move, step_at, stepped, step_move, send_move, close_move, drop_move, changed, performed}
 use Rattle.model.specs.Calls.{answer, Reply, refusal_in, one_answer, requested, replied_to}
-use Rattle.model.specs.Turn.{staying, moving, users_after, session_of, requested_of, turn_of, users_with, users_of, answers_ok, network_of, report_of, lines_as, state_with, Parts, Held}
+use Rattle.model.specs.Turn.{answer_in, part_after, opened_after, users_after, session_of, requested_of, turn_of, part_with, opened_with, users_with, users_of, answers_ok, network_of, report_of, lines_as, Turned, turned, state_with, Parts, Held}
 use Rattle.model.proofs.Checks.{checked_either}
+use Rattle.model.proofs.Steps.{step_either}
 use Rattle.model.proofs.Users.{fold_length}
 use Rattle.model.proofs.Parts.{Sized, Whole, Numbered, store_sized, load_stored, load_others}
 
@@ -42,23 +41,23 @@ store_loaded s u =
 
 -- ---- a line
 
--- the reply to the line r whose turn leaves m and these users
-abbrev pub reply_of : State → Asked → Moved → List ℕ → Reply
-reply_of s r m users =
+-- the reply to the line r whose turn leaves x
+abbrev pub reply_of : State → Asked → Turned → Reply
+reply_of s r x =
     record {
-      state = state_with s (session_of r) m (cond (answers_ok m.answer) (network_of s.network r) s.network) users;
-      lines = lines_as s.network users m.answer (report_of r);
-      refusal = refusal_in m.answer;
+      state = state_with s (session_of r) x;
+      lines = lines_as s.network x.users x.answer (report_of r);
+      refusal = refusal_in x.answer;
     }
 
--- what holds of two refusals alike, and of x and y, holds of two choices by the same tests
-checked_both : {A B : Type 0} (P : A → B → Type 0) (f : Refusal → A) (g : Refusal → B) → ((r : Refusal) → P (f r) (g r)) → (cs : List Check) {x : A} {y : B}
-    → P x y → P (checked f cs x) (checked g cs y)
+-- what holds of each refusal, and of x and y, holds of two choices by the same tests
+checked_both : {A B : Type 0} (P : Result A Refusal → Result B Refusal → Type 0) → ((r : Refusal) → P (Err r) (Err r)) → (cs : List Check) {x : A} {y : B}
+    → P (Ok x) (Ok y) → P (checked cs x) (checked cs y)
 unfolding checked
-checked_both P f g h [] k = k
-checked_both {A} {B} P f g h (c ∷ cs) {x} {y} k = go c.0 (checked_both P f g h cs k)
+checked_both P h [] k = k
+checked_both {A} {B} P h (c ∷ cs) {x} {y} k = go c.0 (checked_both P h cs k)
   where
-    go : (b : Bool) {v : A} {w : B} → P v w → P (cond b (f c.1) v) (cond b (g c.1) w)
+    go : (b : Bool) {v : Result A Refusal} {w : Result B Refusal} → P v w → P (cond b (Err c.1) v) (cond b (Err c.1) w)
     go true p = h c.1
     go false p = p
 
@@ -66,103 +65,130 @@ cond_same : {A : Type 0} (b : Bool) (x : A) → cond b x x ≡ x
 cond_same true x = refl
 cond_same false x = refl
 
-module _ (s : State) (u : ℕ) where
-  -- where the part stays, the network alone may change
-  stays : (a : Answer) (n : Network) → state_with s u (staying (load s u) a) n s.users ≡ (accepted s n).state
-  unfolding state_with
-  stays a n = rw (store_loaded s u)
+-- an open that is accepted opens, and no other request does
+open_opens : (opened : Bool) (n : Network) (c d : ℕ) (t : Part) → opened_after opened (open_move n c d t) ≡ (is_ok (open_move n c d t) || opened)
+unfolding open_move
+open_opens opened n c d t = checked_either (λ (m : Move). opened_after opened m ≡ (is_ok m || opened)) (λ r. refl) _ (λ e. refl)
 
-  -- one answer, and the network n where it is (ok)
-  abbrev reply_with : Network → Moved → List ℕ → Reply
-  reply_with n m users =
-      record {
-        state = state_with s u m (cond (answers_ok m.answer) n s.network) users;
-        lines = answer m.answer;
-        refusal = refusal_in m.answer;
-      }
+step_opens : (opened : Bool) (n : Network) (standing : ℕ → ℕ → Bool) (k : ℕ) (t : Part) → opened_after opened (step_move n standing k t) ≡ opened
+unfolding stepped
+step_opens opened n standing k t = step_either n standing k t (λ o m. opened_after opened m ≡ opened) (λ o r. refl) (λ at s e p. refl)
 
-  refused_whole : (r : Refusal) (n : Network) → one_answer (refused s r) ≡ reply_with n (staying (load s u) (No r)) s.users
-  refused_whole r n = rw (stays (No r) s.network)
+send_opens : (opened : Bool) (w : Sender) (tag : ℕ) (t : Part) → opened_after opened (send_move w tag t) ≡ opened
+unfolding send_move
+send_opens opened w tag t = checked_either (λ (m : Move). opened_after opened m ≡ opened) (λ r. refl) _ (λ e. refl)
 
-  -- a node or route call, with these tests and this network
-  given_whole : (cs : List Check) (n : Network)
-      → one_answer (checked (refused s) cs (accepted s n)) ≡ reply_with n (staying (load s u) (checked No cs Ok)) s.users
-  given_whole cs n =
-      checked_both (λ (t : Turn) (a : Answer). one_answer t ≡ reply_with n (staying (load s u) a) s.users) (refused s) No
-      (λ r. refused_whole r n) cs (rw (stays Ok n))
+close_opens : (opened : Bool) (t : Part) → opened_after opened (close_move t) ≡ opened
+unfolding close_move
+close_opens opened t = checked_either (λ (m : Move). opened_after opened m ≡ opened) (λ r. refl) _ (λ e. refl)
 
-  -- a session's move
-  performed_whole : (m : Move) → one_answer (performed s u m) ≡ reply_with s.network (moving (load s u) m) (users_after s.users m)
-  unfolding performed store changed state_with
-  performed_whole (refuse r) = refused_whole r s.network
-  performed_whole (moved a t c) = rw (cond_same (answers_ok a) s.network)
-
-  -- a move that leaves the users
-  still_whole : (m : Move) → users_after s.users m ≡ s.users → one_answer (performed s u m) ≡ reply_with s.network (moving (load s u) m) s.users
-  still_whole m e = performed_whole m ∙ ap (reply_with s.network (moving (load s u) m)) e
+drop_opens : (opened : Bool) (e : ℕ) (t : Part) → opened_after opened (drop_move e t) ≡ opened
+unfolding drop_move
+drop_opens opened e t = checked_either (λ (m : Move). opened_after opened m ≡ opened) (λ r. refl) _ (λ e. refl)
 
 -- an open and a send move no rows
 open_still : (users : List ℕ) (n : Network) (c d : ℕ) (t : Part) → users_after users (open_move n c d t) ≡ users
 unfolding open_move
-open_still users n c d t = checked_either (λ (m : Move). users_after users m ≡ users) refuse (λ r. refl) _ (λ e. refl)
+open_still users n c d t = checked_either (λ (m : Move). users_after users m ≡ users) (λ r. refl) _ (λ e. refl)
 
 send_still : (users : List ℕ) (w : Sender) (tag : ℕ) (t : Part) → users_after users (send_move w tag t) ≡ users
 unfolding send_move
-send_still users w tag t = checked_either (λ (m : Move). users_after users m ≡ users) refuse (λ r. refl) _ (λ e. refl)
+send_still users w tag t = checked_either (λ (m : Move). users_after users m ≡ users) (λ r. refl) _ (λ e. refl)
+
+module _ (s : State) (u : ℕ) where
+  -- where the part and the users stay, the network alone may change
+  abbrev staying : Result Answer Refusal → Network → Turned
+  staying a n = record { answer = a; opened = s.opened; network = n; users = s.users; part = load s u }
+
+  stays : (a : Result Answer Refusal) (n : Network) → state_with s u (staying a n) ≡ (accepted s n).state
+  stays a n = rw (store_loaded s u)
+
+  -- one answer
+  abbrev reply_with : Turned → Reply
+  reply_with x = record { state = state_with s u x; lines = answer x.answer; refusal = refusal_in x.answer }
+
+  -- the network n where it is (ok)
+  abbrev given_with : Network → Result Answer Refusal → Reply
+  given_with n a = reply_with (staying a (cond (answers_ok a) n s.network))
+
+  refused_whole : (r : Refusal) (n : Network) → one_answer (refused s r) ≡ given_with n (Err r)
+  refused_whole r n = rw (stays (Err r) s.network)
+
+  -- a node or route call, with these tests and this network
+  given_whole : (cs : List Check) (n : Network) → one_answer (network_turn s (checked cs n)) ≡ given_with n (checked cs Answer.Ok)
+  given_whole cs n =
+      checked_both (λ (x : Result Network Refusal) (a : Result Answer Refusal). one_answer (network_turn s x) ≡ given_with n a)
+      (λ r. refused_whole r n) cs (rw (stays (Ok Answer.Ok) n))
+
+  -- a session's move, by what it leaves of what all sessions share
+  performed_whole : (m : Move) (opened : Bool) → opened_after s.opened m ≡ opened → (users : List ℕ) → users_after s.users m ≡ users
+      → one_answer (performed s u m)
+      ≡ reply_with
+          (record {
+            answer = answer_in m;
+            opened = opened;
+            network = cond (answers_ok (answer_in m)) s.network s.network;
+            users = users;
+            part = part_after (load s u) m;
+          })
+  unfolding performed store changed
+  performed_whole (Err r) opened eo users eu = rw (← eo, ← eu) (refused_whole r s.network)
+  performed_whole (Ok m) opened eo users eu = rw (← eo, ← eu, cond_same (answers_ok (Ok m.answer)) s.network)
 
 -- what `Calls` says of a line that was read is what `Turn` says of it in pieces
-pub turn_whole : (s : State) (p : Asked)
-    → let t = load s (session_of p) in
-    replied_to s p
-    ≡ reply_of s p (turn_of s.opened s.network s.users t p) (users_of s.network s.users t p)
-unfolding requested requested_of users_with node_turn route_turn
-turn_whole s (std.Ok (Node a k has needs)) = given_whole s 1 _ _
-turn_whole s (std.Ok (Route a b n)) = given_whole s 1 _ _
-turn_whole s (std.Ok (Open u c d)) = still_whole s u.0 _ (open_still s.users s.network c d (load s u.0))
-turn_whole s (std.Ok (Step u k)) = performed_whole s u.0 _
-turn_whole s (std.Ok (Send u w tag)) = still_whole s u.0 _ (send_still s.users w tag (load s u.0))
-turn_whole s (std.Ok (Close u)) = performed_whole s u.0 _
-turn_whole s (std.Ok Show) = rw (stays s 1 Ok s.network)
-turn_whole s (std.Ok Net) = rw (stays s 1 Ok s.network)
-turn_whole s (std.Ok (Drop u e)) = performed_whole s u.0 _
-turn_whole s (std.Err r) = refused_whole s 1 r s.network
+pub turn_whole : (s : State) (r : Asked) → replied_to s r ≡ reply_of s r (turned s.opened s.network s.users (load s (session_of r)) r)
+unfolding requested requested_of part_with opened_with users_with node_turn route_turn
+turn_whole s (Ok (Node a k has needs)) = given_whole s 1 _ _
+turn_whole s (Ok (Route a b n)) = given_whole s 1 _ _
+turn_whole s (Ok (Open u c d)) =
+    let t = load s u.0 in
+    performed_whole s u.0 _ _ (open_opens s.opened s.network c d t) _ (open_still s.users s.network c d t)
+turn_whole s (Ok (Step u k)) = performed_whole s u.0 _ _ (step_opens s.opened s.network _ k.0 (load s u.0)) _ refl
+turn_whole s (Ok (Send u w tag)) =
+    let t = load s u.0 in
+    performed_whole s u.0 _ _ (send_opens s.opened w tag t) _ (send_still s.users w tag t)
+turn_whole s (Ok (Close u)) = performed_whole s u.0 _ _ (close_opens s.opened (load s u.0)) _ refl
+turn_whole s (Ok Show) = rw (stays s 1 (Ok Answer.Ok) s.network)
+turn_whole s (Ok Net) = rw (stays s 1 (Ok Answer.Ok) s.network)
+turn_whole s (Ok (Drop u e)) = performed_whole s u.0 _ _ (drop_opens s.opened e (load s u.0)) _ refl
+turn_whole s (Err r) = refused_whole s 1 r s.network
 
 -- ---- one call of a state that is held in pieces
 
 -- what a turn leaves is stored in the state, and among the parts
-module _ {s : State} {parts : List Part} (hs : Sized s) (h : Parts s parts) (u : ℕ) (hu : Numbered u) (m : Moved) (hm : Whole m.part) where
-  each_stored : (v : ℕ) → v < 8 → (t : Part) → get_or (set parts (u - 1) m.part) v t ≡ load (store s u m.part) (v + 1)
+module _ {s : State} {parts : List Part} (hs : Sized s) (h : Parts s parts) (u : ℕ) (hu : Numbered u) (x : Turned) (hx : Whole x.part) where
+  each_stored : (v : ℕ) → v < 8 → (t : Part) → get_or (set parts (u - 1) x.part) v t ≡ load (store s u x.part) (v + 1)
   each_stored v k t = go (ℕ_discrete v (u - 1))
     where
-      go : Dec (v ≡ u - 1) → get_or (set parts (u - 1) m.part) v t ≡ load (store s u m.part) (v + 1)
+      go : Dec (v ≡ u - 1) → get_or (set parts (u - 1) x.part) v t ≡ load (store s u x.part) (v + 1)
       go (yes e) =
           let w : v + 1 ≡ u = omega arith in
-          rw (w, e) (get_or-set_same parts (u - 1) m.part t (omega (arith, h.many)) ∙ sym (load_stored s hs m.part hm u hu))
+          rw (w, e) (get_or-set_same parts (u - 1) x.part t (omega (arith, h.many)) ∙ sym (load_stored s hs x.part hx u hu))
       go (no e) =
-          get_or-set_other parts (u - 1) v m.part t e
+          get_or-set_other parts (u - 1) v x.part t e
           ∙ h.each v k t
-          ∙ sym (load_others s hs m.part hm (v + 1) u (omega arith) hu (λ w. e (omega arith)))
+          ∙ sym (load_others s hs x.part hx (v + 1) u (omega arith) hu (λ w. e (omega arith)))
 
-  left_held : (n : Network) (left : List ℕ) → Held (state_with s u m n left) (m.opens || s.opened) n (set parts (u - 1) m.part) left
-  unfolding state_with load
-  left_held n left =
-      record { opens = refl; network = refl; own = record { many = length-set parts (u - 1) m.part ∙ h.many; each = each_stored }; shared = refl }
+  left_held : Held (state_with s u x) x.opened x.network (set parts (u - 1) x.part) x.users
+  unfolding load
+  left_held =
+      record { opens = refl; network = refl; own = record { many = length-set parts (u - 1) x.part ∙ h.many; each = each_stored }; shared = refl }
 
-  left_sized : (n : Network) (left : List ℕ) → length left ≡ 2048 → Sized (state_with s u m n left)
-  unfolding state_with
-  left_sized n left k = omega (arith, store_sized s hs m.part hm u hu)
+  left_sized : length x.users ≡ 2048 → Sized (state_with s u x)
+  left_sized k = omega (arith, store_sized s hs x.part hx u hu)
 
 -- the pieces that the code has after the call hold the state that the call leaves
-pub record Further (s : State) (r : Asked) (opened : Bool) (n : Network) (parts : List Part) (users : List ℕ) (m : Moved) (left : List ℕ) : Type 0 where
+pub record Further (s : State) (r : Asked) (n : Network) (parts : List Part) (x : Turned) : Type 0 where
   pub sized : Sized (replied_to s r).state
-  pub held : Held (replied_to s r).state (m.opens || opened) (cond (answers_ok m.answer) (network_of n r) n)
-      (set parts (session_of r - 1) m.part) left
-  pub lines : (replied_to s r).lines ≡ lines_as n left m.answer (report_of r)
+  pub held : Held (replied_to s r).state x.opened x.network (set parts (session_of r - 1) x.part) x.users
+  pub lines : (replied_to s r).lines ≡ lines_as n x.users x.answer (report_of r)
 
 -- no line changes how many users are counted
 after_length : (users : List ℕ) (m : Move) → length (users_after users m) ≡ length users
-after_length users (refuse r) = refl
-after_length users (moved a p c) = fold_length one_more c.came (lowered users c.went) ∙ fold_length one_less c.went users
+after_length users (Err r) = refl
+after_length users (Ok m) =
+    let c = m.change in
+    fold_length one_more c.came (lowered users c.went) ∙ fold_length one_less c.went users
 
 with_length : (n : Network) (users : List ℕ) (t : Part) (q : request.Request) → length (users_with n users t q) ≡ length users
 unfolding users_with
@@ -177,34 +203,35 @@ with_length n users t Net = refl
 with_length n users t (Drop u e) = after_length users (drop_move e t)
 
 users_length : (n : Network) (users : List ℕ) (t : Part) (p : Asked) → length (users_of n users t p) ≡ length users
-users_length n users t (std.Ok q) = with_length n users t q
-users_length n users t (std.Err r) = refl
+users_length n users t (Ok q) = with_length n users t q
+users_length n users t (Err r) = refl
 
 module _ {s : State} {opened : Bool} {n : Network} {parts : List Part} {users : List ℕ} (hs : Sized s) (h : Held s opened n parts users) where
-  pub held_further : (r : Asked) → Numbered (session_of r) → (m : Moved) (left : List ℕ) (z : Part)
-      → m ≡ turn_of opened n users (get_or parts (session_of r - 1) z) r
-      → left ≡ users_of n users (get_or parts (session_of r - 1) z) r
-      → Whole m.part → Further s r opened n parts users m left
-  held_further r hu m left z em el hm = rw (← h.opens, ← h.network, ← h.shared) go
+  pub held_further : (r : Asked) → Numbered (session_of r) → (x : Turned) (z : Part)
+      → x ≡ turned opened n users (get_or parts (session_of r - 1) z) r → Whole x.part → Further s r n parts x
+  held_further r hu x z ex hx = rw (← h.network) go
     where
       part : get_or parts (session_of r - 1) z ≡ load s (session_of r)
       part =
           let e : session_of r - 1 + 1 ≡ session_of r = omega arith in
           rw e at (h.own.each (session_of r - 1) (omega arith) z)
 
-      reply : replied_to s r ≡ reply_of s r m left
-      reply = rw (em, el, part, ← h.opens, ← h.network, ← h.shared) (turn_whole s r)
+      same : x ≡ turned s.opened s.network s.users (load s (session_of r)) r
+      same = rw (ex, part, h.opens, h.network, h.shared)
 
-      size : length left ≡ 2048
-      size = rw (el, users_length) (rw h.shared at hs.users)
+      reply : replied_to s r ≡ reply_of s r x
+      reply = rw same (turn_whole s r)
 
-      go : Further s r s.opened s.network parts s.users m left
+      size : length x.users ≡ 2048
+      size = rw (same, users_length) hs.users
+
+      go : Further s r s.network parts x
       go =
-          let e = ap (λ (x : Reply). x.state) reply in
+          let e = ap (λ (y : Reply). y.state) reply in
           record {
-            sized = rw e (left_sized hs h.own (session_of r) hu m hm _ left size);
-            held = rw e (left_held hs h.own (session_of r) hu m hm _ left);
-            lines = ap (λ (x : Reply). x.lines) reply;
+            sized = rw e (left_sized hs h.own (session_of r) hu x hx size);
+            held = rw e (left_held hs h.own (session_of r) hu x hx);
+            lines = ap (λ (y : Reply). y.lines) reply;
           }
 
 -- ---- pieces determine the state

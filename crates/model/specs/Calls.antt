@@ -1,15 +1,13 @@
 -- One call, and a list of calls. `simulator::call::call` cites `answered`. Assumes nothing.
-use Rattle.std.specs.Prelude.{ℕ, Bool, true, false, cond, List, [], ◌∷◌, ◌++◌, ltb, eqb, length, drop}
+use Rattle.std.specs.Prelude.{ℕ, Bool, true, false, cond, List, [], ◌∷◌, ◌++◌, Result, Ok, Err, ltb, eqb, length, drop}
 use Rattle.std.proofs.Math.Option.{Option, none, some}
 use Rattle.calculus.specs.declared.answer.Answer.{Answer}
-use Rattle.calculus.specs.declared.answer.Answer.TheVariants.{Ok, Made, MadeByDefault, MadeTwo, Lost, Denied, Opened, Delivered, Closed, No}
 use Rattle.calculus.specs.declared.answer.Refusal.{Refusal}
 use Rattle.calculus.specs.declared.answer.Refusal.TheVariants.{Short}
 use Rattle.calculus.specs.declared.request.Request as request
 use Rattle.calculus.specs.declared.request.Request.TheVariants.{Node, Route, Open, Step, Send, Close, Show, Net, Drop}
 use Rattle.calculus.specs.declared.state.State.{State}
 use Rattle.calculus.specs.declared.state.Turn.{Turn}
-use Rattle.std.specs.Prelude as std
 use Rattle.forms.specs.Bytes.{joined}
 use Rattle.forms.specs.Text.{Form, node, route, «open», step, send, close, show, net, take_down}
 use Rattle.forms.specs.Read.{read}
@@ -24,7 +22,7 @@ use Rattle.model.specs.Requests.{refused, node_turn, route_turn, in_session, ope
 
 -- what a call writes: the line of its answer, or the lines of a report, each with its newline
 pub data Lines : Type 0 where
-  answer : Answer → Lines
+  answer : Result Answer Refusal → Lines
   report : List (List ℕ) → Lines
 
 -- nothing is written
@@ -37,17 +35,9 @@ pub record Reply : Type 0 where
   pub lines : Lines
   pub refusal : Option Refusal
 
-abbrev pub refusal_in : Answer → Option Refusal
-refusal_in Ok = none
-refusal_in (Made n) = none
-refusal_in (MadeByDefault n) = none
-refusal_in (MadeTwo n m) = none
-refusal_in (Lost l) = none
-refusal_in Denied = none
-refusal_in Opened = none
-refusal_in (Delivered tag) = none
-refusal_in Closed = none
-refusal_in (No r) = some r
+abbrev pub refusal_in : Result Answer Refusal → Option Refusal
+refusal_in (Ok a) = none
+refusal_in (Err r) = some r
 
 -- one answer
 abbrev pub one_answer : Turn → Reply
@@ -75,8 +65,8 @@ requested s (Drop u e) = one_answer (in_session s u.0 (drop_move e))
 
 -- "every call 0, 1, 2": 1 and 2 are the reading's
 abbrev pub replied_to : State → Asked → Reply
-replied_to s (std.Ok q) = requested s q
-replied_to s (std.Err r) = one_answer (refused s r)
+replied_to s (Ok q) = requested s q
+replied_to s (Err r) = one_answer (refused s r)
 
 -- a call with this line and a lent output of `size` bytes
 unfoldable pub answered : State → List ℕ → ℕ → Reply

@@ -1,5 +1,5 @@
 -- Request #109: a tunnel that is dropped leaves what stood before it. Proved in proofs/Drop. Assumes nothing.
-use Rattle.std.specs.Prelude.{ℕ, ◌≡◌, true, cond, List, [], ◌∷◌, ◌++◌}
+use Rattle.std.specs.Prelude.{ℕ, ◌≡◌, true, cond, List, [], ◌∷◌, ◌++◌, Ok, Err}
 use Rattle.std.specs.Prelude.{Option, None, Some}
 use Rattle.std.proofs.Math.Option.{none, some}
 use Rattle.calculus.specs.Number.{is_session}
@@ -9,7 +9,6 @@ use Rattle.calculus.specs.declared.packet.Slot.{Slot}
 use Rattle.calculus.specs.declared.request.Request as request
 use Rattle.calculus.specs.declared.request.Request.TheVariants.{Node, Route, Open, Step, Send, Close, Show, Net, Drop}
 use Rattle.calculus.specs.declared.state.State.{State}
-use Rattle.std.specs.Prelude as std
 use Rattle.forms.specs.Text.{take_down}
 use Rattle.forms.specs.Read.{read}
 use Rattle.forms.specs.Request.{asked, Asked}
@@ -56,8 +55,8 @@ request_events s (Drop u e) = removed ∷ []
 
 -- the same, of a line that was read
 abbrev pub line_events : State → Asked → List Event
-line_events s (std.Ok q) = request_events s q
-line_events s (std.Err r) = []
+line_events s (Ok q) = request_events s q
+line_events s (Err r) = []
 
 -- the events of a call: none where it is refused
 abbrev pub call_events : State → Call → List Event

@@ -1,7 +1,7 @@
 -- The network's text gives that network again, and no other (document 02, #101). Proved in proofs/GivenBack. Assumes nothing.
-use Rattle.std.specs.Prelude.{ℕ, ◌≤◌, ◌≡◌, true, false, cond, List, [], ◌∷◌, map, Option, Some, None, ◌↔◌, ltb, length}
+use Rattle.std.specs.Prelude.{ℕ, ◌≤◌, ◌≡◌, true, false, cond, List, [], ◌∷◌, map, Option, Some, None, ◌↔◌, ltb, length, Ok}
 use Rattle.calculus.specs.Number.{is_node, is_destination}
-use Rattle.calculus.specs.declared.answer.Answer.TheVariants.{Ok}
+use Rattle.calculus.specs.declared.answer.Answer.{Answer}
 use Rattle.calculus.specs.declared.network.Network.{Network}
 use Rattle.calculus.specs.declared.network.Node.{Node}
 use Rattle.calculus.specs.declared.state.State.{State}
@@ -60,7 +60,7 @@ fresh_with n = (accepted fresh n).state
 
 -- the reply is `(ok)`
 abbrev pub AnsweredOk : Reply → Type 0
-AnsweredOk r = r.lines ≡ answer Ok
+AnsweredOk r = r.lines ≡ answer (Ok Answer.Ok)
 
 pub record GivenBack : Type 0 where
   -- "(net) writes it", at any time, and changes nothing; of a line that is `(net)` refusal 0 is the only one

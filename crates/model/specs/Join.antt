@@ -1,8 +1,7 @@
 -- Two networks made one: what a join of two files writes (document 02, #106). `joins::join` cites it; its promises are in Union. Assumes nothing.
-use Rattle.std.specs.Prelude.{ℕ, ◌+◌, Bool, true, false, cond, not, ◌&&◌, ◌||◌, List, [], ◌∷◌, ◌++◌, map, ltb, eqb, length}
+use Rattle.std.specs.Prelude.{ℕ, ◌+◌, Bool, true, false, cond, not, ◌&&◌, ◌||◌, List, [], ◌∷◌, ◌++◌, map, ltb, eqb, length, Err}
 use Rattle.std.specs.Prelude as std
 use Rattle.std.proofs.Math.Option.{Option, none, some}
-use Rattle.calculus.specs.declared.answer.Answer.TheVariants.{No}
 use Rattle.calculus.specs.declared.answer.Refusal.{Refusal}
 use Rattle.calculus.specs.declared.answer.Refusal.TheVariants.{Short, Clash, Unsorted}
 use Rattle.calculus.specs.declared.network.Network.{Network}
@@ -97,7 +96,7 @@ pub record JoinReply : Type 0 where
 
 -- "A refused join writes only (no 14) or (no 15)"
 abbrev pub refused_join : Refusal → JoinReply
-refused_join r = record { text = answer_text (No r); refusal = some r }
+refused_join r = record { text = answer_text (Err r); refusal = some r }
 
 -- refusal 0: "nothing written"
 abbrev pub short_join : JoinReply

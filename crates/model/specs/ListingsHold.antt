@@ -1,6 +1,6 @@
 -- The listings hold: what each call writes, what session 1 holds at some moments of them, and how many of its steps are counted. Proved
 -- in proofs/Listings. Assumes nothing.
-use Rattle.std.specs.Prelude.{ℕ, ◌≡◌, Bool, true, false, cond, ◌&&◌, ◌||◌, List, [], ◌∷◌, map, ltb, eqb, take, replicate, Option, Some, None}
+use Rattle.std.specs.Prelude.{ℕ, ◌≡◌, Bool, true, false, cond, ◌&&◌, ◌||◌, List, [], ◌∷◌, map, ltb, eqb, take, replicate, Option, Some, None, Ok, Err}
 use Rattle.std.proofs.Math.Option.{some}
 use Rattle.calculus.specs.declared.packet.Header.{Header}
 use Rattle.calculus.specs.declared.packet.Item.{Item}
@@ -14,7 +14,6 @@ use Rattle.calculus.specs.declared.request.Request.TheVariants.{Node, Route, Ope
 use Rattle.calculus.specs.declared.session.Row.{Row}
 use Rattle.calculus.specs.declared.session.Stage.{Stage}
 use Rattle.calculus.specs.declared.state.State.{State}
-use Rattle.std.specs.Prelude as std
 use Rattle.forms.specs.Read.{read}
 use Rattle.forms.specs.Request.{asked, Asked}
 use Rattle.model.specs.Item.{is_wait}
@@ -66,8 +65,8 @@ steps_lowest s Net = true
 steps_lowest s (Drop u e) = true
 
 abbrev pub parsed_lowest : State → Asked → Bool
-parsed_lowest s (std.Ok q) = steps_lowest s q
-parsed_lowest s (std.Err r) = true
+parsed_lowest s (Ok q) = steps_lowest s q
+parsed_lowest s (Err r) = true
 
 abbrev pub only_lowest : State → Listing → Bool
 only_lowest s [] = true

@@ -1,11 +1,11 @@
 -- Demand 3: no session can tell whether the others are there. Proved in proofs/Noninterference. Assumes nothing.
-use Rattle.std.specs.Prelude.{ℕ, ◌+◌, ◌≡◌, Bool, true, false, cond, List, [], ◌∷◌, ◌++◌, map}
+use Rattle.std.specs.Prelude.{ℕ, ◌+◌, ◌≡◌, Bool, true, false, cond, List, [], ◌∷◌, ◌++◌, map, not, Result, Ok, Err, Some, None}
 use Rattle.std.proofs.Math.Option.{Option, none, some}
 use Rattle.std.specs.Prelude as std
 use Rattle.calculus.specs.Answer.{refusal_number}
 use Rattle.calculus.specs.Number.{is_node, is_session}
 use Rattle.calculus.specs.declared.answer.Answer.{Answer}
-use Rattle.calculus.specs.declared.answer.Answer.TheVariants.{Ok, Made, MadeByDefault, MadeTwo, Lost, Denied, Opened, Delivered, Closed, No}
+use Rattle.calculus.specs.declared.answer.Answer.TheVariants.{Made, MadeByDefault, MadeTwo, Lost, Denied, Opened, Delivered, Closed}
 use Rattle.calculus.specs.declared.answer.Refusal.{Refusal}
 use Rattle.calculus.specs.declared.packet.Slot.{Slot}
 use Rattle.calculus.specs.declared.session.Row.{Row}
@@ -33,17 +33,17 @@ abbrev pub observed : Reply → Observed
 observed r = record { lines = lines_of r; number = number_of r.refusal }
 
 -- the numbers that an answer carries in `(made ..)`
-abbrev pub numbers_in : Answer → List ℕ
-numbers_in Ok = []
-numbers_in (Made n) = n.0 ∷ []
-numbers_in (MadeByDefault n) = n.0 ∷ []
-numbers_in (MadeTwo n m) = n.0 ∷ m.0 ∷ []
-numbers_in (Lost l) = []
-numbers_in Denied = []
-numbers_in Opened = []
-numbers_in (Delivered tag) = []
-numbers_in Closed = []
-numbers_in (No r) = []
+abbrev pub numbers_in : Result Answer Refusal → List ℕ
+numbers_in (Ok Answer.Ok) = []
+numbers_in (Ok (Made n)) = n.0 ∷ []
+numbers_in (Ok (MadeByDefault n)) = n.0 ∷ []
+numbers_in (Ok (MadeTwo n m)) = n.0 ∷ m.0 ∷ []
+numbers_in (Ok (Lost l)) = []
+numbers_in (Ok Denied) = []
+numbers_in (Ok Opened) = []
+numbers_in (Ok (Delivered tag)) = []
+numbers_in (Ok Closed) = []
+numbers_in (Err r) = []
 
 -- a report issues none
 abbrev pub numbers_in_lines : Lines → List ℕ
@@ -60,8 +60,8 @@ issued (r ∷ rs) = numbers_in_lines r.lines ++ issued rs
 -- the pending items, in the order of their places
 abbrev pub pending : List (std.Option Slot) → List Slot
 pending [] = []
-pending (std.None ∷ l) = pending l
-pending (std.Some s ∷ l) = s ∷ pending l
+pending (None ∷ l) = pending l
+pending (Some s ∷ l) = s ∷ pending l
 
 -- "Ends are compared while the session is in use"
 abbrev pub ends_of : Part → Option (ℕ × ℕ)

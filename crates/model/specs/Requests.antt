@@ -1,8 +1,8 @@
 -- What each request answers, and the state that it leaves; its refusals, in document 01's order. Assumes nothing.
-use Rattle.std.specs.Prelude.{ℕ, ◌+◌, ◌-◌, Bool, true, false, cond, not, ◌&&◌, ◌||◌, List, [], ◌∷◌, ◌++◌, map, leb, ltb, eqb, length, set, take, Option, Some, None, get_or}
+use Rattle.std.specs.Prelude.{ℕ, ◌+◌, ◌-◌, Bool, true, false, cond, not, ◌&&◌, ◌||◌, List, [], ◌∷◌, ◌++◌, map, leb, ltb, eqb, length, set, take, Option, Some, None, get_or, Result, Ok, Err}
 use Rattle.std.proofs.lemmas.List.Edits.{sets}
 use Rattle.calculus.specs.declared.answer.Answer.{Answer}
-use Rattle.calculus.specs.declared.answer.Answer.TheVariants.{Ok, Made, Closed, No}
+use Rattle.calculus.specs.declared.answer.Answer.TheVariants.{Made, Closed}
 use Rattle.calculus.specs.declared.answer.ShownAssociation.{ShownAssociation}
 use Rattle.calculus.specs.declared.answer.Refusal.{Refusal}
 use Rattle.calculus.specs.declared.answer.Refusal.TheVariants.{Double, Unknown, Late, Taken, Idle, Same, Spent, NoItem, Waiting, Full, Busy, NoSuchTunnel}
@@ -39,13 +39,13 @@ abbrev pub Check : Type 0
 Check = Bool × Refusal
 
 -- the first refusal whose test holds, or x
-unfoldable pub checked : {A : Type 0} → (Refusal → A) → List Check → A → A
-checked refuse [] x = x
-checked refuse (c ∷ cs) x = cond c.0 (refuse c.1) (checked refuse cs x)
+unfoldable pub checked : {A : Type 0} → List Check → A → Result A Refusal
+checked [] x = Ok x
+checked (c ∷ cs) x = cond c.0 (Err c.1) (checked cs x)
 
 -- a refused call "changes no state"
 abbrev pub refused : State → Refusal → Turn
-refused s r = record { state = s; answer = No r }
+refused s r = record { state = s; answer = Err r }
 
 -- ---- node and route
 
@@ -53,8 +53,13 @@ abbrev pub accepted : State → Network → Turn
 accepted s n =
     record {
       state = record { opened = s.opened; network = n; sessions = s.sessions; items = s.items; rows = s.rows; users = s.users };
-      answer = Ok;
+      answer = Ok Answer.Ok;
     }
+
+-- a call that gives this network, or is refused
+abbrev pub network_turn : State → Result Network Refusal → Turn
+network_turn s (Ok n) = accepted s n
+network_turn s (Err r) = refused s r
 
 abbrev pub with_node : Network → ℕ → Kind → List Bool → List Bool → Network
 with_node n a k has needs =
@@ -68,7 +73,7 @@ abbrev pub node_checks : Bool → Network → ℕ → List Check
 node_checks opened n a = (opened, Late) ∷ (given n a, Double) ∷ []
 
 unfoldable pub node_turn : State → ℕ → Kind → List Bool → List Bool → Turn
-node_turn s a k has needs = checked (refused s) (node_checks s.opened s.network a) (accepted s (with_node s.network a k has needs))
+node_turn s a k has needs = network_turn s (checked (node_checks s.opened s.network a) (with_node s.network a k has needs))
 
 -- a route's destination is given: 0 "needs no node"
 abbrev pub destination_given : Network → ℕ → Bool
@@ -92,7 +97,7 @@ route_checks opened n a b next =
     ∷ []
 
 unfoldable pub route_turn : State → ℕ → ℕ → ℕ → Turn
-route_turn s a b next = checked (refused s) (route_checks s.opened s.network a b next) (accepted s (with_route s.network a b next))
+route_turn s a b next = network_turn s (checked (route_checks s.opened s.network a b next) (with_route s.network a b next))
 
 -- ---- a session's requests: moves of its own part
 
@@ -102,9 +107,14 @@ pub record Change : Type 0 where
   pub went : List Row
   pub came : List Row
 
-pub data Move : Type 0 where
-  refuse : Refusal → Move
-  moved : Answer → Part → Change → Move
+-- what a request answers, what it leaves of the part, and of those tables
+pub record Moved : Type 0 where
+  pub answer : Answer
+  pub part : Part
+  pub change : Change
+
+abbrev pub Move : Type 0
+Move = Result Moved Refusal
 
 abbrev pub no_rows : Bool → Change
 no_rows opens = record { opens = opens; went = []; came = [] }
@@ -145,26 +155,29 @@ opening t c d = with_item t Stage.SettingUp c d (Wire c (bare c d (Disc c)))
 -- open 6, 4, 8, 9, 10
 unfoldable pub open_move : Network → ℕ → ℕ → Part → Move
 open_move n c d t =
-    checked refuse
+    checked
     ((not (unused t), Taken)
     ∷ (not (given n c && given n d), Unknown)
     ∷ (eqb c d, Same)
     ∷ (is_gateway n c || is_gateway n d, refusal.Gateway)
     ∷ (spent t, Spent)
     ∷ [])
-    (moved (made_next t) (opening t c d) (no_rows true))
+    (record { answer = made_next t; part = opening t c d; change = no_rows true })
 
 -- the effect f of the item at place `at`
-unfoldable pub stepped : Part → ℕ → Effect → Move
+unfoldable pub stepped : Part → ℕ → Effect → Moved
 stepped t at f =
-    moved (answer_of t.session.last.0 f.outcome) (applied t at f)
-    (record { opens = false; went = []; came = placed t.session.rows f.added })
+    record {
+      answer = answer_of t.session.last.0 f.outcome;
+      part = applied t at f;
+      change = record { opens = false; went = []; came = placed t.session.rows f.added };
+    }
 
 -- step 7, 11, 12, 10: of the pending item in its place, if there is one
 unfoldable pub step_at : Network → (ℕ → ℕ → Bool) → Part → Option (ℕ × Slot) → Move
-step_at n standing t None = checked refuse ((unused t, Idle) ∷ []) (refuse NoItem)
+step_at n standing t None = Err (cond (unused t) Idle NoItem)
 step_at n standing t (Some (at, s)) =
-    checked refuse ((unused t, Idle) ∷ (is_wait s.item, Waiting) ∷ (spent t, Spent) ∷ [])
+    checked ((unused t, Idle) ∷ (is_wait s.item, Waiting) ∷ (spent t, Spent) ∷ [])
     (stepped t at (rule n standing t s.item))
 
 -- "step u k"
@@ -182,8 +195,8 @@ sending t w tag = with_item t t.session.stage t.session.client t.session.server 
 -- send 7, 13, 10
 unfoldable pub send_move : Sender → ℕ → Part → Move
 send_move w tag t =
-    checked refuse ((unused t, Idle) ∷ (leb 12 (how_many_items is_data_item t.items), Full) ∷ (spent t, Spent) ∷ [])
-    (moved (made_next t) (sending t w tag) (no_rows false))
+    checked ((unused t, Idle) ∷ (leb 12 (how_many_items is_data_item t.items), Full) ∷ (spent t, Spent) ∷ [])
+    (record { answer = made_next t; part = sending t w tag; change = no_rows false })
 
 -- t, unused, with the places of `blank` in place of its own
 abbrev pub emptied : Part → Part → Part
@@ -200,7 +213,9 @@ closing t = emptied blank_part t
 
 -- close 7, which leaves the part p
 abbrev pub close_to : Part → Part → Move
-close_to p t = checked refuse ((unused t, Idle) ∷ []) (moved Closed p (record { opens = false; went = held t; came = [] }))
+close_to p t =
+    checked ((unused t, Idle) ∷ [])
+    (record { answer = Closed; part = p; change = record { opens = false; went = held t; came = [] } })
 
 unfoldable pub close_move : Part → Move
 close_move t = close_to (closing t) t
@@ -220,12 +235,12 @@ dropping e t =
 unfoldable pub drop_move : ℕ → Part → Move
 drop_move e t =
     let gone = those (is_of e) (held t) in
-    checked refuse
+    checked
     ((unused t, Idle)
     ∷ (ltb 0 (how_many_items (names_establishment e) t.items), Busy)
     ∷ (eqb (length gone) 0, NoSuchTunnel)
     ∷ [])
-    (moved Closed (dropping e t) (record { opens = false; went = gone; came = [] }))
+    (record { answer = Closed; part = dropping e t; change = record { opens = false; went = gone; came = [] } })
 
 -- ---- a move made
 
@@ -241,8 +256,8 @@ changed s c =
     }
 
 unfoldable pub performed : State → ℕ → Move → Turn
-performed s u (refuse r) = refused s r
-performed s u (moved a t c) = record { state = store (changed s c) u t; answer = a }
+performed s u (Err r) = refused s r
+performed s u (Ok m) = record { state = store (changed s m.change) u m.part; answer = Ok m.answer }
 
 -- what session u's request does, that is this function of its part
 abbrev pub in_session : State → ℕ → (Part → Move) → Turn

@@ -1,5 +1,5 @@
 -- Request #103: how many steps a set-up can take, and what is left in the end. Proved in proofs/Termination. Assumes nothing.
-use Rattle.std.specs.Prelude.{ℕ, ◌+◌, ◌*◌, ◌≤◌, ◌≡◌, Bool, true, false, cond, not, ◌&&◌, List, [], ◌∷◌, eqb, length}
+use Rattle.std.specs.Prelude.{ℕ, ◌+◌, ◌*◌, ◌≤◌, ◌≡◌, Bool, true, false, cond, not, ◌&&◌, List, [], ◌∷◌, eqb, length, Some, None}
 use Rattle.std.specs.Prelude as std
 use Rattle.std.proofs.Math.Option.{Option, none, some}
 use Rattle.calculus.specs.Number.{is_session}
@@ -41,8 +41,8 @@ ceiling = establishment_limit * establishment_steps + establishment_limit * trip
 
 -- a step of the item that was found, if one was, is counted
 abbrev pub is_counted : std.Option (ℕ × Slot) → Bool
-is_counted std.None = false
-is_counted (std.Some (at, s)) = is_set_up_item s.item
+is_counted None = false
+is_counted (Some (at, s)) = is_set_up_item s.item
 
 -- what an accepted call of a session with the items l makes of its count n: "since its open on all items but Data"
 abbrev pub form_count : List (std.Option Slot) → ℕ → Option Form → ℕ
@@ -79,8 +79,8 @@ Settled t = spent t ≡ false → how_many_items is_active t.items ≡ 0
 -- a step call of session u for each item that is neither a wait nor Data
 abbrev pub active_steps : ℕ → List (std.Option Slot) → List Call
 active_steps u [] = []
-active_steps u (std.None ∷ l) = active_steps u l
-active_steps u (std.Some x ∷ l) = cond (is_active x.item) (roomy_call (text (step u x.number.0)) ∷ active_steps u l) (active_steps u l)
+active_steps u (None ∷ l) = active_steps u l
+active_steps u (Some x ∷ l) = cond (is_active x.item) (roomy_call (text (step u x.number.0)) ∷ active_steps u l) (active_steps u l)
 
 -- the state after rounds: in each come calls of anyone, and then those items are stepped
 unfoldable pub after_rounds : ℕ → State → List (List Call) → State

@@ -60,17 +60,14 @@ fn network_of(n: &mut Network, asked: Result<Request, Refusal>)
 }
 
 // Whether the answer is `(ok)`: no other leaves another network.
-fn is_ok(answer: Answer) -> bool
+fn is_ok(answer: Result<Answer, Refusal>) -> bool
     ensures { result ≡ turns.answers_ok answer }
 {
-    match answer {
-        Answer::Ok => true,
-        _ => false,
-    }
+    matches!(answer, Ok(Answer::Ok))
 }
 
 // Adds to the network, once a line is answered that asks this, what an accepted node or route call gives.
-pub fn network_after(n: &mut Network, asked: Result<Request, Refusal>, answer: Answer)
+pub fn network_after(n: &mut Network, asked: Result<Request, Refusal>, answer: Result<Answer, Refusal>)
     ensures { n.new ≡ cond (turns.answers_ok answer) (turns.network_of n.old asked) n.old }
 {
     if is_ok(answer) {

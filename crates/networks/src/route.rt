@@ -1,6 +1,6 @@
 // What a route call answers.
 ghost use Rattle.std.specs.Prelude.{◌≡◌, not};
-ghost use Rattle.calculus.specs.declared.answer.Answer.TheVariants.{Ok, No};
+ghost use Rattle.calculus.specs.declared.answer.Answer.{Answer};
 ghost use Rattle.model.specs.Network as network;
 ghost use Rattle.model.specs.Requests as spec;
 
@@ -35,20 +35,20 @@ fn has_route(n: &Network, a: u8, b: u8) -> bool
 
 // route a b hop: refusals 5, 4, 8, 3.
 #[tactic(auto, unfolding(model::specs::Requests::checked))]
-pub fn route_answer(opened: bool, n: &Network, a: u8, b: u8, hop: u8) -> Answer
-    ensures { result ≡ spec.checked No (spec.route_checks opened n.now a b hop) Ok }
+pub fn route_answer(opened: bool, n: &Network, a: u8, b: u8, hop: u8) -> Result<Answer, Refusal>
+    ensures { result ≡ spec.checked (spec.route_checks opened n.now a b hop) Answer.Ok }
 {
     if opened {
-        return Answer::No(Refusal::Late);
+        return Err(Refusal::Late);
     }
     if is_route_unknown(n, a, b, hop) {
-        return Answer::No(Refusal::Unknown);
+        return Err(Refusal::Unknown);
     }
     if is_same(a, b, hop) {
-        return Answer::No(Refusal::Same);
+        return Err(Refusal::Same);
     }
     if has_route(n, a, b) {
-        return Answer::No(Refusal::Double);
+        return Err(Refusal::Double);
     }
-    Answer::Ok
+    Ok(Answer::Ok)
 }

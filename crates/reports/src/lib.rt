@@ -15,6 +15,7 @@ use crate::network::put_network;
 use crate::show::put_shown;
 use answers::put::Output;
 use answers::room::has_room;
+use answers::write::write;
 use calculus::answer::{Answer, Refusal};
 use calculus::network::Network;
 use calculus::request::{Report, Request};
@@ -22,37 +23,33 @@ use calculus::request::{Report, Request};
 // No call's lines have more bytes.
 const ROOM: usize = 65536;
 
-// The report that a request asks for.
-fn report_in(q: Request) -> Report
-    ensures { result ≡ turns.report_in q }
-{
-    match q {
-        Request::Show => Report::AllAssociations,
-        Request::Net => Report::WholeNetwork,
-        _ => Report::NoReport,
-    }
-}
-
-// The report that a line asks for.
-fn report_of(asked: Result<Request, Refusal>) -> Report
+// The report that a line asks for, if it asks for one.
+fn report_of(asked: Result<Request, Refusal>) -> Option<Report>
     ensures { result ≡ turns.report_of asked }
 {
     match asked {
-        Ok(q) => report_in(q),
-        Err(_) => Report::NoReport,
+        Ok(Request::Show) => Some(Report::AllAssociations),
+        Ok(Request::Net) => Some(Report::WholeNetwork),
+        _ => None,
     }
 }
 
 // The lines of a report, or that of `answer`. The caller has made sure of the room.
-fn put_lines(out: &mut Output<'_>, n: &Network, users: &[u16; 2048], answer: Answer, report: Report)
+fn put_lines(
+    out: &mut Output<'_>,
+    n: &Network,
+    users: &[u16; 2048],
+    answer: Result<Answer, Refusal>,
+    report: Option<Report>,
+)
     requires { out.old.at + 65536 ≤ length out.old.out.now }
     ensures added { Adds out.old (lines_text (turns.lines_as n.now users.now answer report)) out.new }
     ensures few { out.new.at ≤ out.old.at + 65536 }
 {
     match report {
-        Report::NoReport => out.write(&answer),
-        Report::AllAssociations => put_shown(out, users),
-        Report::WholeNetwork => put_network(out, n),
+        None => out.write(&answer),
+        Some(Report::AllAssociations) => put_shown(out, users),
+        Some(Report::WholeNetwork) => put_network(out, n),
     }
 }
 
@@ -64,7 +61,7 @@ pub fn write_lines(
     n: &Network,
     users: &[u16; 2048],
     asked: Result<Request, Refusal>,
-    answer: Answer,
+    answer: Result<Answer, Refusal>,
 ) -> usize
     ensures { Writes 65536 out.old at (lines_text (turns.lines_as n.now users.now answer (turns.report_of asked))) out.new result }
 {

@@ -1,145 +1,108 @@
-// A session's requests. Each is a function of the network, the users and the session's own part; its refusals stand in the documents'
-// order.
-ghost use Rattle.std.specs.Prelude.{◌≡◌, false, not, ◌&&◌, ◌||◌, ◌≤◌};
+// A session's requests. Each is a function of the network, and changes the users and the session's own part in place; its refusals
+// stand in the documents' order, and a refused request leaves both as they were.
+ghost use Rattle.std.specs.Prelude.{◌≡◌, false, not, ◌&&◌, ◌||◌};
 ghost use Rattle.model.specs.Network as network;
 ghost use Rattle.model.specs.Row.{stands};
 ghost use Rattle.model.specs.Requests as spec;
-ghost use Rattle.model.specs.Turn.{moving, Moves};
+ghost use Rattle.model.specs.Turn.{answer_in, part_after, users_after};
 
 use calculus::answer::{Answer, Refusal};
 use calculus::network::Network;
-use calculus::number::ItemNumber;
+use calculus::number::{ItemNumber, Unspent};
 use calculus::packet::{Item, Payload, Slot};
 use calculus::request::Sender;
 use calculus::session::{Session, Stage};
-use calculus::state::{Moved, Part};
-use effects::moves::{refused, stepped};
+use calculus::state::Part;
+use effects::moves::stepped;
 use items::item::is_wait;
 use items::packet::bare;
 use items::places::{find, is_busy, is_full, put_item};
 use lookups::network::{given, is_gateway};
+use lookups::rows::held;
 use lookups::users::lower;
-use rows::picked::picked;
+use rows::picked::{other_rows, rows_of};
 use rules::rule::rule;
 
-fn is_unused(g: Stage) -> bool
-    ensures { result ≡ spec.is_unused g }
+fn is_unused(t: &Part) -> bool
+    ensures { result ≡ spec.unused t.now }
 {
-    match g {
-        Stage::Unused => true,
-        Stage::SettingUp => false,
-        Stage::Open => false,
-        Stage::Denied => false,
-    }
-}
-
-fn is_in_use(g: Stage) -> bool
-    ensures { result ≡ not (spec.is_unused g) }
-{
-    !is_unused(g)
-}
-
-// The session at this stage and between these ends, with the item written.
-fn with_item(t: Part, stage: Stage, client: u8, server: u8, i: Item) -> Part
-    requires { t.session.last.0 ≤ 999998 }
-    ensures { result ≡ spec.with_item t stage client server i }
-{
-    let s = t.session;
-    let mut items = t.items;
-    let rows = t.rows;
-    let number = s.last;
-    let last = ItemNumber(number.0 + 1);
-    put_item(&mut items, last, i);
-    Part {
-        session: Session {
-            stage,
-            client,
-            server,
-            begun: s.begun,
-            rows: s.rows,
-            last,
-        },
-        items,
-        rows,
-    }
+    t.session.stage == Stage::Unused
 }
 
 // ---- open
 
-fn is_end_unknown(n: &Network, c: u8, d: u8) -> bool
-    ensures { result ≡ not (network.given n.now c && network.given n.now d) }
-{
-    !(given(n, c) && given(n, d))
-}
-
-fn has_gateway(n: &Network, c: u8, d: u8) -> bool
-    ensures { result ≡ (network.is_gateway n.now c || network.is_gateway n.now d) }
-{
-    is_gateway(n, c) || is_gateway(n, d)
-}
-
-fn opening(t: Part, c: u8, d: u8) -> Part
-    requires { t.session.last.0 ≤ 999998 }
-    ensures { result ≡ spec.opening t c d }
-{
-    let packet = bare(c, d, Payload::Disc(c));
-    with_item(t, Stage::SettingUp, c, d, Item::Wire(c, packet))
-}
-
 // open u c d, where `t` is u's part: refusals 6, 4, 8, 9, 10.
-pub fn open(n: &Network, t: Part, c: u8, d: u8) -> Moved
-    ensures { result ≡ moving t (spec.open_move n.now c d t) }
+#[tactic(auto, unfolding(model::specs::Requests::open_move, model::specs::Requests::opening, model::specs::Requests::checked))]
+pub fn open(n: &Network, t: &mut Part, c: u8, d: u8) -> Result<Answer, Refusal>
+    ensures answer { result ≡ answer_in (spec.open_move n.now c d t.old) }
+    ensures part { t.new ≡ part_after t.old (spec.open_move n.now c d t.old) }
 {
-    let s = t.session;
-    let stage = s.stage;
-    let last = s.last;
-    if is_in_use(stage) {
-        return refused(t, Refusal::Taken);
+    if !is_unused(t) {
+        return Err(Refusal::Taken);
     }
-    if is_end_unknown(n, c, d) {
-        return refused(t, Refusal::Unknown);
+    if !(given(n, c) && given(n, d)) {
+        return Err(Refusal::Unknown);
     }
     if c == d {
-        return refused(t, Refusal::Same);
+        return Err(Refusal::Same);
     }
-    if has_gateway(n, c, d) {
-        return refused(t, Refusal::Gateway);
+    if is_gateway(n, c) || is_gateway(n, d) {
+        return Err(Refusal::Gateway);
     }
-    if 999998 < last.0 {
-        return refused(t, Refusal::Spent);
-    }
-    let part = opening(t, c, d);
-    Moved {
-        opens: true,
-        answer: Answer::Made(ItemNumber(last.0 + 1)),
-        part,
-    }
+    let last = Unspent::of(t.session.last).ok_or(Refusal::Spent)?;
+    t.session = Session {
+        stage: Stage::SettingUp,
+        client: c,
+        server: d,
+        last: last.first(),
+        ..t.session
+    };
+    put_item(
+        &mut t.items,
+        last.first(),
+        Item::Wire(c, bare(c, d, Payload::Disc(c))),
+    );
+    Ok(Answer::Made(last.first()))
 }
 
 // ---- step
 
-// The same of the item that was found in its place, or of none: refusals 7, 11, 12, 10.
+// A step of the item that was found in its place, or of none: refusals 7, 11, 12, 10.
 #[tactic(auto, unfolding(model::specs::Requests::step_at, model::specs::Requests::checked))]
-fn step_at(n: &Network, users: &mut [u16; 2048], t: Part, found: Option<(usize, Slot)>) -> Moved
-    ensures { Moves users.old t (spec.step_at n.now (stands users.old false) t found) users.new result }
+fn step_at(
+    n: &Network,
+    users: &mut [u16; 2048],
+    t: &mut Part,
+    found: Option<(usize, Slot)>,
+) -> Result<Answer, Refusal>
+    ensures answer { result ≡ answer_in (spec.step_at n.now (stands users.old false) t.old found) }
+    ensures part { t.new ≡ part_after t.old (spec.step_at n.now (stands users.old false) t.old found) }
+    ensures shared { users.new ≡ users_after users.old (spec.step_at n.now (stands users.old false) t.old found) }
 {
-    if is_unused(t.session.stage) {
-        return refused(t, Refusal::Idle);
+    if is_unused(t) {
+        return Err(Refusal::Idle);
     }
     let Some((at, slot)) = found else {
-        return refused(t, Refusal::NoItem);
+        return Err(Refusal::NoItem);
     };
     if is_wait(slot.item) {
-        return refused(t, Refusal::Waiting);
+        return Err(Refusal::Waiting);
     }
-    let effect = rule(n, users, &t, slot.item);
-    stepped(users, t, at, effect)
+    let effect = rule(n, users, t, slot.item);
+    stepped(users, t, at, &effect)
 }
 
 // step u k, where `t` is u's part.
 #[tactic(auto, unfolding(model::specs::Requests::step_move))]
-pub fn step(n: &Network, users: &mut [u16; 2048], t: Part, k: ItemNumber) -> Moved
-    ensures { Moves users.old t (spec.step_move n.now (stands users.old false) k.0 t) users.new result }
+pub fn step(
+    n: &Network,
+    users: &mut [u16; 2048],
+    t: &mut Part,
+    k: ItemNumber,
+) -> Result<Answer, Refusal>
+    ensures answer { result ≡ answer_in (spec.step_move n.now (stands users.old false) k.0 t.old) }
+    ensures part { t.new ≡ part_after t.old (spec.step_move n.now (stands users.old false) k.0 t.old) }
+    ensures shared { users.new ≡ users_after users.old (spec.step_move n.now (stands users.old false) k.0 t.old) }
 {
     let found = find(&t.items, k);
     step_at(n, users, t, found)
@@ -147,148 +110,98 @@ pub fn step(n: &Network, users: &mut [u16; 2048], t: Part, k: ItemNumber) -> Mov
 
 // ---- send
 
-fn data_item(s: Session, w: Sender, tag: u32) -> Item
-    ensures { result ≡ spec.data_item s w tag }
+fn data_item(s: &Session, w: Sender, tag: u32) -> Item
+    ensures { result ≡ spec.data_item s.now w tag }
 {
     match w {
-        Sender::Client => {
-            let packet = bare(s.client, s.server, Payload::Data(tag));
-            Item::Out(s.client, packet)
-        }
-        Sender::Server => {
-            let packet = bare(s.server, s.client, Payload::Data(tag));
-            Item::Out(s.server, packet)
-        }
+        Sender::Client => Item::Out(s.client, bare(s.client, s.server, Payload::Data(tag))),
+        Sender::Server => Item::Out(s.server, bare(s.server, s.client, Payload::Data(tag))),
     }
-}
-
-fn sending(t: Part, w: Sender, tag: u32) -> Part
-    requires { t.session.last.0 ≤ 999998 }
-    ensures { result ≡ spec.sending t w tag }
-{
-    let s = t.session;
-    let stage = s.stage;
-    let item = data_item(s, w, tag);
-    with_item(t, stage, s.client, s.server, item)
 }
 
 // send u w tag, where `t` is u's part: refusals 7, 13, 10.
-pub fn send(t: Part, w: Sender, tag: u32) -> Moved
-    ensures { result ≡ moving t (spec.send_move w tag t) }
+#[tactic(auto, unfolding(model::specs::Requests::send_move, model::specs::Requests::sending, model::specs::Requests::checked))]
+pub fn send(t: &mut Part, w: Sender, tag: u32) -> Result<Answer, Refusal>
+    ensures answer { result ≡ answer_in (spec.send_move w tag t.old) }
+    ensures part { t.new ≡ part_after t.old (spec.send_move w tag t.old) }
 {
-    let s = t.session;
-    let stage = s.stage;
-    let last = s.last;
-    if is_unused(stage) {
-        return refused(t, Refusal::Idle);
+    if is_unused(t) {
+        return Err(Refusal::Idle);
     }
     if is_full(&t.items) {
-        return refused(t, Refusal::Full);
+        return Err(Refusal::Full);
     }
-    if 999998 < last.0 {
-        return refused(t, Refusal::Spent);
-    }
-    let part = sending(t, w, tag);
-    Moved {
-        opens: false,
-        answer: Answer::Made(ItemNumber(last.0 + 1)),
-        part,
-    }
+    let last = Unspent::of(t.session.last).ok_or(Refusal::Spent)?;
+    let item = data_item(&t.session, w, tag);
+    t.session.last = last.first();
+    put_item(&mut t.items, last.first(), item);
+    Ok(Answer::Made(last.first()))
 }
 
 // ---- close
 
 // The part, unused, with the places of `blank` in place of its own.
-fn emptied(blank: Part, t: Part) -> Part
-    ensures { result ≡ spec.emptied blank t }
+fn empty(t: &mut Part, blank: &Part)
+    ensures { t.new ≡ spec.emptied blank.now t.old }
 {
-    let s = t.session;
-    let kept = s.last;
-    let items = blank.items;
-    let rows = blank.rows;
-    Part {
-        session: Session {
-            stage: Stage::Unused,
-            client: 0,
-            server: 0,
-            begun: 0,
-            rows: 0,
-            last: kept,
-        },
-        items,
-        rows,
-    }
+    let last = t.session.last;
+    *t = *blank;
+    t.session = Session {
+        stage: Stage::Unused,
+        client: 0,
+        server: 0,
+        begun: 0,
+        rows: 0,
+        last,
+    };
 }
 
 // close u, where `t` is u's part: refusal 7. It leaves the places of `blank`, which the caller has ready.
-pub fn close(users: &mut [u16; 2048], t: Part, blank: Part) -> Moved
-    ensures { Moves users.old t (spec.close_to (spec.emptied blank t) t) users.new result }
+#[tactic(auto, unfolding(model::specs::Requests::checked))]
+pub fn close(users: &mut [u16; 2048], t: &mut Part, blank: &Part) -> Result<Answer, Refusal>
+    ensures answer { result ≡ answer_in (spec.close_to (spec.emptied blank.now t.old) t.old) }
+    ensures part { t.new ≡ part_after t.old (spec.close_to (spec.emptied blank.now t.old) t.old) }
+    ensures shared { users.new ≡ users_after users.old (spec.close_to (spec.emptied blank.now t.old) t.old) }
 {
-    let s = t.session;
-    let stage = s.stage;
-    if is_unused(stage) {
-        return refused(t, Refusal::Idle);
+    if is_unused(t) {
+        return Err(Refusal::Idle);
     }
-    let rows = t.rows;
-    lower(users, rows, s.rows);
-    let part = emptied(blank, t);
-    Moved {
-        opens: false,
-        answer: Answer::Closed,
-        part,
-    }
+    lower(users, held(t));
+    empty(t, blank);
+    Ok(Answer::Closed)
 }
 
 // ---- drop
 
-// The part without the rows of establishment `e`.
-fn dropping(t: Part, e: u8) -> Part
-    ensures { result ≡ spec.dropping e t }
+// The rows of establishment `e` go.
+#[tactic(auto, unfolding(model::specs::Requests::dropping))]
+fn drop_rows(t: &mut Part, e: u8)
+    ensures { t.new ≡ spec.dropping e t.old }
 {
-    let s = t.session;
-    let stage = s.stage;
-    let last = s.last;
-    let items = t.items;
-    let old_rows = t.rows;
-    let kept = picked(false, e, old_rows, s.rows);
+    let kept = other_rows(t, e);
     let rows = kept.places;
-    Part {
-        session: Session {
-            stage,
-            client: s.client,
-            server: s.server,
-            begun: s.begun,
-            rows: kept.held,
-            last,
-        },
-        items,
-        rows,
-    }
+    t.rows = rows;
+    t.session.rows = kept.held;
 }
 
 // drop u e, where `t` is u's part: refusals 7, 16, 17.
-pub fn drop(users: &mut [u16; 2048], t: Part, e: u8) -> Moved
-    ensures { Moves users.old t (spec.drop_move e t) users.new result }
+#[tactic(auto, using(model::proofs::Lists::take_those), unfolding(model::specs::Requests::drop_move, model::specs::Requests::checked))]
+pub fn drop(users: &mut [u16; 2048], t: &mut Part, e: u8) -> Result<Answer, Refusal>
+    ensures answer { result ≡ answer_in (spec.drop_move e t.old) }
+    ensures part { t.new ≡ part_after t.old (spec.drop_move e t.old) }
+    ensures shared { users.new ≡ users_after users.old (spec.drop_move e t.old) }
 {
-    let s = t.session;
-    let stage = s.stage;
-    let rows = t.rows;
-    if is_unused(stage) {
-        return refused(t, Refusal::Idle);
+    if is_unused(t) {
+        return Err(Refusal::Idle);
     }
     if is_busy(&t.items, e) {
-        return refused(t, Refusal::Busy);
+        return Err(Refusal::Busy);
     }
-    let gone = picked(true, e, rows, s.rows);
+    let gone = rows_of(t, e);
     if gone.held == 0 {
-        return refused(t, Refusal::NoSuchTunnel);
+        return Err(Refusal::NoSuchTunnel);
     }
-    let places = gone.places;
-    lower(users, places, gone.held);
-    let part = dropping(t, e);
-    Moved {
-        opens: false,
-        answer: Answer::Closed,
-        part,
-    }
+    lower(users, gone.as_slice());
+    drop_rows(t, e);
+    Ok(Answer::Closed)
 }
