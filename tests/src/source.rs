@@ -36,7 +36,7 @@ impl Source {
         for line in self.text.lines() {
             let line = line.split("//").next().unwrap_or_default();
             let start = line.trim();
-            contract |= start.starts_with("requires {") || start.starts_with("ensures {");
+            contract |= start.starts_with("requires ") || start.starts_with("ensures ");
             contract &= !["{", "{}"].contains(&start);
             if !contract && !start.starts_with("ghost use ") {
                 code.push_str(&without_literals(line));

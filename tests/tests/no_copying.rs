@@ -22,14 +22,26 @@ const HELD: [&str; 11] = ["bool", "false", "u16", "u64", "0u64", "None", "Option
 
 /// What the language itself has that holds and copies no bytes: words, and methods.
 const PLAIN: [&str; 11] = ["Clone", "Copy", "Drop", "Eq", "Err", "None", "Ok", "Option", "PartialEq", "Self", "Some"];
-const PLAIN_METHODS: [&str; 3] = ["is_some", "len", "ok"];
+const PLAIN_METHODS: [&str; 11] = [
+    "contains",
+    "enumerate",
+    "is_empty",
+    "is_ok",
+    "is_some",
+    "iter",
+    "len",
+    "min",
+    "ok",
+    "saturating_sub",
+    "unwrap_or",
+];
 
 /// What the source has of these, by crate.
 const NAMED: &[(&str, &str)] = &[
     // the one place that writes a byte of a call's answer
     ("answers", "out[at] ="),
     // the caller's input, of which the rest is moved to the front
-    ("pieces", "input[i] ="),
+    ("pieces", ".copy_within"),
     // the program's own input and output: it is the caller, and these are the slices that it lends
     ("simulate", "[0u8; 65536]"),
     ("simulate", "[0u8; 131072]"),
@@ -56,23 +68,28 @@ const NAMED: &[(&str, &str)] = &[
     ("join", "&mut a"),
     ("join", "&mut b"),
     ("join", "&mut out"),
-    ("join", "&mut buffer[size..]"),
     ("join", "[0u8; 4096]"),
     ("join", "&mut path"),
     ("join", "&mut file"),
-    ("join", "&mut File"),
     ("join", "std::env::Env"),
     ("join", "std::fs::File"),
     ("join", "std::io::Print"),
-    ("join", "std::io::Read"),
     ("join", "std::io::Result"),
     ("join", "HostRuntime"),
     ("join", "File"),
     ("join", "File::open"),
     ("join", "str::from_utf8"),
     ("join", ".arg"),
-    ("join", ".read"),
     ("join", ".write_all"),
+    // a program's input, read into the slice that it lends
+    ("inputs", "&mut buffer[size..]"),
+    ("inputs", "std::io::self"),
+    ("inputs", "std::io::Read"),
+    ("inputs", "Read"),
+    ("inputs", "io::Result"),
+    ("inputs", "R"),
+    ("inputs", "&mut R"),
+    ("inputs", ".read"),
     // the next hops: numbers of nodes, whose digits a report writes
     ("calculus", "[Option<u8>; 1056]"),
     ("reports", "[Option<u8>; 1056]"),
@@ -91,14 +108,22 @@ const NAMED: &[(&str, &str)] = &[
     ("tables", "[session; 8]"),
     ("tables", "[slot; 128]"),
     ("tables", "[row; 256]"),
-    ("tables", "[blank; 16]"),
-    ("tables", "[blank; 32]"),
-    ("tables", "[first; 8]"),
+    ("tables", "[load_at(s, 0); 8]"),
+    // a session's part of the items or of the rows
+    ("tables", "T"),
+    ("tables", "[T]"),
+    ("tables", "[T]"),
+    ("tables", "[T; N]"),
+    ("tables", "[T; N]"),
+    ("tables", "[table[N * at]; N]"),
+    ("tables", ".copy_from_slice"),
+    ("tables", ".copy_from_slice"),
     ("lookups", "[slot; 16]"),
     ("lookups", "[row; 32]"),
     ("simulator", "parts[at] ="),
     ("simulator", "&mut network"),
     ("simulator", "&mut network"),
+    ("simulator", "&mut state"),
     ("simulator", "&mut users"),
     ("simulator", "&mut users"),
 ];

@@ -3,12 +3,13 @@
 // first dot and how many dots there are, then those bytes.
 #![tactic(auto)]
 
-ghost use Rattle.std.specs.Prelude.{◌≤◌, length, IfOk};
+ghost use Rattle.std.specs.Prelude.{◌≤◌, length};
 
 use calculus::state::State;
+use inputs::read_full;
 use lines::line_at;
 use simulator::call::{Status, call};
-use std::io::{self, Print, Read};
+use std::io::{self, Print};
 use tables::fresh::fresh;
 
 fn put(rt: &HostRuntime, word: &[u8]) -> io::Result<()> {
@@ -33,26 +34,13 @@ fn put_status(rt: &HostRuntime, status: Status) -> io::Result<()> {
 fn first_dot(out: &[u8]) -> usize
     ensures { result ≤ length out.now }
 {
-    let mut i: usize = 0;
-    while i < out.len() {
-        if out[i] == b'.' {
-            return i;
-        }
-        i += 1;
-    }
-    i
+    out.iter()
+        .position(|byte| *byte == b'.')
+        .unwrap_or(out.len())
 }
 
 fn count_dots(out: &[u8]) -> usize {
-    let mut n: usize = 0;
-    let mut i: usize = 0;
-    while i < out.len() {
-        if out[i] == b'.' {
-            n += 1;
-        }
-        i += 1;
-    }
-    n
+    out.iter().filter(|byte| **byte == b'.').count()
 }
 
 // The call, and the state that it leaves.
@@ -62,16 +50,14 @@ fn put_call(rt: &HostRuntime, state: State, line: &[u8], out: &mut [u8]) -> io::
     put_number(rt, out.len() as u64)?;
     put(rt, b" bytes: ")?;
     let reply = call(state, line, out);
-    let status = reply.status;
-    put_status(rt, status)?;
+    put_status(rt, reply.status)?;
     put(rt, b", written")?;
     put_number(rt, reply.written as u64)?;
     let n = first_dot(out);
     put(rt, b", before the dots")?;
     put_number(rt, n as u64)?;
     put(rt, b", dots")?;
-    let dots = count_dots(out);
-    put_number(rt, dots as u64)?;
+    put_number(rt, count_dots(out) as u64)?;
     put(rt, b"\n")?;
     put(rt, &out[..n])?;
     Ok(reply.state)
@@ -96,23 +82,8 @@ fn put_lines(rt: &HostRuntime, text: &[u8]) -> io::Result<()> {
     Ok(())
 }
 
-// Reads until the buffer is full or the input ends: how many bytes came.
-fn read_full(rt: &HostRuntime, buffer: &mut [u8]) -> io::Result<usize>
-    ensures { IfOk result (λ n. n ≤ length buffer.new) }
-{
-    let mut size: usize = 0;
-    while size < buffer.len() {
-        let count = rt.stdin().read(&mut buffer[size..])?;
-        if count == 0 {
-            return Ok(size);
-        }
-        size += count;
-    }
-    Ok(size)
-}
-
 fn main(rt: HostRuntime) -> io::Result<()> {
     let mut input = [0u8; 8192];
-    let n = read_full(&rt, &mut input)?;
+    let n = read_full(&mut rt.stdin(), &mut input)?;
     put_lines(&rt, &input[..n])
 }

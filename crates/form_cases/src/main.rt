@@ -1,8 +1,6 @@
 // Writes what each line of the input asks, then answers of each kind, with every loss and every refusal, then lines of reports.
 #![tactic(auto)]
 
-ghost use Rattle.std.specs.Prelude.{◌≤◌, length, IfOk};
-
 use answers::report::{End, GivenNode, GivenRoute};
 use answers::write::{OutputLine, write};
 use calculus::answer::{Answer, Loss, Refusal, ShownAssociation};
@@ -11,7 +9,8 @@ use calculus::number::{ItemNumber, Spi};
 use calculus::request::{Request, Sender};
 use forms::line::next_line;
 use forms::read::read;
-use std::io::{self, Print, Read};
+use inputs::read_full;
+use std::io::{self, Print};
 
 fn put(rt: &HostRuntime, word: &[u8]) -> io::Result<()> {
     rt.write_all(word)
@@ -35,12 +34,10 @@ fn put_answer(rt: &HostRuntime, answer: Answer) -> io::Result<()> {
 
 fn put_credentials(rt: &HostRuntime, name: &[u8], set: [bool; 64]) -> io::Result<()> {
     put(rt, name)?;
-    let mut i: usize = 0;
-    while i < 64 {
-        if set[i] {
+    for (i, is_set) in set.iter().enumerate() {
+        if *is_set {
             put_number(rt, i as u64)?;
         }
-        i += 1;
     }
     put(rt, b")")
 }
@@ -139,44 +136,61 @@ fn put_line(rt: &HostRuntime, line: &[u8]) -> io::Result<()> {
 }
 
 fn put_refusals(rt: &HostRuntime) -> io::Result<()> {
-    put_answer(rt, Answer::No(Refusal::Short))?;
-    put_answer(rt, Answer::No(Refusal::Unreadable))?;
-    put_answer(rt, Answer::No(Refusal::Range))?;
-    put_answer(rt, Answer::No(Refusal::Double))?;
-    put_answer(rt, Answer::No(Refusal::Unknown))?;
-    put_answer(rt, Answer::No(Refusal::Late))?;
-    put_answer(rt, Answer::No(Refusal::Taken))?;
-    put_answer(rt, Answer::No(Refusal::Idle))?;
-    put_answer(rt, Answer::No(Refusal::Same))?;
-    put_answer(rt, Answer::No(Refusal::Gateway))?;
-    put_answer(rt, Answer::No(Refusal::Spent))?;
-    put_answer(rt, Answer::No(Refusal::NoItem))?;
-    put_answer(rt, Answer::No(Refusal::Waiting))?;
-    put_answer(rt, Answer::No(Refusal::Full))?;
-    put_answer(rt, Answer::No(Refusal::Clash))?;
-    put_answer(rt, Answer::No(Refusal::Unsorted))?;
-    put_answer(rt, Answer::No(Refusal::Busy))?;
-    put_answer(rt, Answer::No(Refusal::NoSuchTunnel))
+    let refusals = [
+        Refusal::Short,
+        Refusal::Unreadable,
+        Refusal::Range,
+        Refusal::Double,
+        Refusal::Unknown,
+        Refusal::Late,
+        Refusal::Taken,
+        Refusal::Idle,
+        Refusal::Same,
+        Refusal::Gateway,
+        Refusal::Spent,
+        Refusal::NoItem,
+        Refusal::Waiting,
+        Refusal::Full,
+        Refusal::Clash,
+        Refusal::Unsorted,
+        Refusal::Busy,
+        Refusal::NoSuchTunnel,
+    ];
+    for refusal in refusals {
+        put_answer(rt, Answer::No(refusal))?;
+    }
+    Ok(())
 }
 
 fn put_losses(rt: &HostRuntime) -> io::Result<()> {
-    put_answer(rt, Answer::Lost(Loss::Unprotected))?;
-    put_answer(rt, Answer::Lost(Loss::HopLimit))?;
-    put_answer(rt, Answer::Lost(Loss::NoRoute))?;
-    put_answer(rt, Answer::Lost(Loss::NoTunnel))?;
-    put_answer(rt, Answer::Lost(Loss::WrongTunnel))?;
-    put_answer(rt, Answer::Lost(Loss::Exhausted))
+    let losses = [
+        Loss::Unprotected,
+        Loss::HopLimit,
+        Loss::NoRoute,
+        Loss::NoTunnel,
+        Loss::WrongTunnel,
+        Loss::Exhausted,
+    ];
+    for loss in losses {
+        put_answer(rt, Answer::Lost(loss))?;
+    }
+    Ok(())
 }
 
 fn put_answers(rt: &HostRuntime) -> io::Result<()> {
-    put_answer(rt, Answer::Ok)?;
-    put_answer(rt, Answer::Made(ItemNumber(3)))?;
-    put_answer(rt, Answer::MadeByDefault(ItemNumber(1000000)))?;
-    put_answer(rt, Answer::MadeTwo(ItemNumber(999999), ItemNumber(1000000)))?;
-    put_answer(rt, Answer::Denied)?;
-    put_answer(rt, Answer::Opened)?;
-    put_answer(rt, Answer::Delivered(4294967295))?;
-    put_answer(rt, Answer::Closed)?;
+    let answers = [
+        Answer::Ok,
+        Answer::Made(ItemNumber(3)),
+        Answer::MadeByDefault(ItemNumber(1000000)),
+        Answer::MadeTwo(ItemNumber(999999), ItemNumber(1000000)),
+        Answer::Denied,
+        Answer::Opened,
+        Answer::Delivered(4294967295),
+        Answer::Closed,
+    ];
+    for answer in answers {
+        put_answer(rt, answer)?;
+    }
     put_losses(rt)?;
     put_refusals(rt)
 }
@@ -267,24 +281,9 @@ fn put_reports(rt: &HostRuntime) -> io::Result<()> {
     put_nothing(rt)
 }
 
-// Reads until the buffer is full or the input ends: how many bytes came.
-fn read_full(rt: &HostRuntime, buffer: &mut [u8]) -> io::Result<usize>
-    ensures { IfOk result (λ n. n ≤ length buffer.new) }
-{
-    let mut size: usize = 0;
-    while size < buffer.len() {
-        let count = rt.stdin().read(&mut buffer[size..])?;
-        if count == 0 {
-            return Ok(size);
-        }
-        size += count;
-    }
-    Ok(size)
-}
-
 fn main(rt: HostRuntime) -> io::Result<()> {
     let mut input = [0u8; 8192];
-    let n = read_full(&rt, &mut input)?;
+    let n = read_full(&mut rt.stdin(), &mut input)?;
     let text = &input[..n];
     let mut from = 0;
     while let Some(line) = next_line(text, from) {

@@ -2,49 +2,13 @@
 // what it makes of the files is `joins`'.
 #![tactic(auto)]
 
-ghost use Rattle.std.specs.Prelude.{◌≤◌, length};
+ghost use Rattle.std.specs.Prelude.{◌≤◌, length, IfSome};
 
+use inputs::read_full;
 use joins::join;
 use std::env::Env;
 use std::fs::File;
-use std::io::{Print, Read};
-
-// Whether a file could be read, and how many of its bytes stand at the front of a lent buffer.
-#[derive(Clone, Copy)]
-pub struct FileRead {
-    pub is_read: bool,
-    pub size: usize,
-}
-
-// Reads until the buffer is full or the file ends.
-fn read_all(file: &mut File, buffer: &mut [u8]) -> FileRead
-    ensures { result.size ≤ length buffer.new }
-{
-    let mut size: usize = 0;
-    while size < buffer.len() {
-        match file.read(&mut buffer[size..]) {
-            Ok(0) => {
-                return FileRead {
-                    is_read: true,
-                    size,
-                };
-            }
-            Ok(count) => {
-                size += count;
-            }
-            Err(_) => {
-                return FileRead {
-                    is_read: false,
-                    size,
-                };
-            }
-        }
-    }
-    FileRead {
-        is_read: true,
-        size,
-    }
-}
+use std::io::Print;
 
 // Opens the file that argument i names; where that is missing, too long or no text, there is none.
 fn open_file(rt: &HostRuntime, i: usize) -> Option<File> {
@@ -54,18 +18,13 @@ fn open_file(rt: &HostRuntime, i: usize) -> Option<File> {
     File::open(rt, name).ok()
 }
 
-// Reads the file that argument i names. No network's text has more than 29,376 bytes, so a file that fills a buffer of 29,377 is
+// Reads the file that argument i names: how many bytes it has, none where it can't be read. No network's text has more than 29,376 bytes, so a file that fills a buffer of 29,377 is
 // refused as the whole file would be (`cut` in model/specs/Union.antt).
-fn read_file(rt: &HostRuntime, i: usize, buffer: &mut [u8]) -> FileRead
-    ensures { result.size ≤ length buffer.new }
+fn read_file(rt: &HostRuntime, i: usize, buffer: &mut [u8]) -> Option<usize>
+    ensures { IfSome result (λ n. n ≤ length buffer.new) }
 {
-    match open_file(rt, i) {
-        Some(mut file) => read_all(&mut file, buffer),
-        None => FileRead {
-            is_read: false,
-            size: 0,
-        },
-    }
+    let mut file = open_file(rt, i)?;
+    read_full(&mut file, buffer).ok()
 }
 
 fn main(rt: HostRuntime) -> std::io::Result<()> {
@@ -74,9 +33,14 @@ fn main(rt: HostRuntime) -> std::io::Result<()> {
     let mut out = [0u8; 65536];
     let first = read_file(&rt, 1, &mut a);
     let second = read_file(&rt, 2, &mut b);
-    let n = first.size;
-    let m = second.size;
-    let reply = join(first.is_read, &a[..n], second.is_read, &b[..m], &mut out);
-    let written = reply.written;
-    rt.write_all(&out[..written])
+    let n = first.unwrap_or(0);
+    let m = second.unwrap_or(0);
+    let reply = join(
+        first.is_some(),
+        &a[..n],
+        second.is_some(),
+        &b[..m],
+        &mut out,
+    );
+    rt.write_all(&out[..reply.written])
 }

@@ -8,39 +8,28 @@ use pieces::{advance, start};
 use std::io::{Print, Read};
 
 // One read behind the first `at` bytes, which takes what there is: how many bytes came, 0 at the end of the input. A read that
-// fails counts as the end; no signal interrupts one, since the program handles none. None where no more is wanted.
-fn read_more(rt: &HostRuntime, input: &mut [u8], at: usize, wants: bool) -> usize
+// fails counts as the end; no signal interrupts one, since the program handles none.
+fn read_more(rt: &HostRuntime, input: &mut [u8], at: usize) -> usize
     requires { at ≤ length input.old }
 {
-    if wants {
-        return match rt.stdin().read(&mut input[at..]) {
-            Ok(count) => count,
-            Err(_) => 0,
-        };
-    }
-    0
+    rt.stdin().read(&mut input[at..]).unwrap_or(0)
 }
 
+// A proved loop has to end, and nothing says that the input does: so the rounds are counted, up to a number that no run comes to.
 // A failed write ends the program, as the end of the input does.
-fn write_out(rt: &HostRuntime, out: &[u8], over: bool) -> bool {
-    match rt.write_all(out) {
-        Ok(()) => !over,
-        Err(_) => false,
-    }
-}
-
-// A proved loop has to end, and nothing says that the input does: so the rounds are counted, down from a number that no run
-// uses up.
 fn run(rt: &HostRuntime, input: &mut [u8], out: &mut [u8]) {
     let mut progress = start();
-    let mut going = true;
-    let mut rounds = u64::MAX;
-    while rounds > 0 && going {
-        let got = read_more(rt, input, progress.to, progress.wants);
+    for _ in 0..u64::MAX {
+        let got = if progress.wants {
+            read_more(rt, input, progress.to)
+        } else {
+            0
+        };
         progress = advance(progress, input, got, out);
-        let written = progress.written;
-        going = write_out(rt, &out[..written], progress.over);
-        rounds -= 1;
+        let is_written = rt.write_all(&out[..progress.written]).is_ok();
+        if progress.over || !is_written {
+            return;
+        }
     }
 }
 
