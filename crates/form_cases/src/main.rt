@@ -238,7 +238,6 @@ fn gateway() -> GivenNode {
     GivenNode {
         number: 32,
         node: Node {
-            given: true,
             kind: Kind::Gateway,
             has,
             needs: [true; 64],
