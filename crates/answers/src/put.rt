@@ -1,5 +1,5 @@
 // Texts added to an output, one behind the other.
-ghost use Rattle.std.specs.Prelude.{◌+◌, ◌≤◌, ◌≡◌, ◌++◌, length};
+ghost use Rattle.std.specs.Prelude.{[], ◌∷◌, ◌+◌, ◌≤◌, ◌<◌, ◌++◌, length};
 ghost use Rattle.forms.specs.Bytes.{decimal};
 ghost use Rattle.forms.specs.Text.{number_text, list_text};
 ghost use Rattle.forms.specs.Request.{credentials_from};
@@ -24,16 +24,25 @@ impl<'a> Output<'a> {
         self.at = next;
     }
 
+    // One byte.
+    fn byte(&mut self, byte: u8)
+        requires { self.old.at < length self.old.out.now }
+        ensures { Adds self.old (byte ∷ []) self.new }
+    {
+        self.out[self.at] = byte;
+        self.at += 1;
+    }
+
     // `n` in decimal: what stands before its last digit, then that digit.
     pub(crate) fn number(&mut self, n: u64)
         requires { self.old.at + length (decimal n) ≤ length self.old.out.now }
         ensures { Adds self.old (decimal n) self.new }
     {
         if n < 10 {
-            self.word(&[b'0' + n as u8]);
+            self.byte(b'0' + n as u8);
         } else {
             self.number(n / 10);
-            self.word(&[b'0' + (n % 10) as u8]);
+            self.byte(b'0' + (n % 10) as u8);
         }
     }
 
