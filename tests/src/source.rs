@@ -28,8 +28,9 @@ impl Source {
         self.path.split('/').next().unwrap_or_default()
     }
 
-    /// Its code, each line in its place: no comments, ghost imports and contracts, and nothing in the quotes of a byte, a character or
-    /// a string, so that every bracket is the code's own. A contract ends where the body starts, on a line of its own.
+    /// Its code, each line in its place: no comments, ghost imports, ghost members and contracts, and nothing in the quotes of a byte, a
+    /// character or a string, so that every bracket is the code's own. A contract ends where the body starts, on a line of its own, or,
+    /// in a trait, with the semicolon.
     pub fn code(&self) -> String {
         let mut code = String::new();
         let mut contract = false;
@@ -38,9 +39,10 @@ impl Source {
             let start = line.trim();
             contract |= start.starts_with("requires ") || start.starts_with("ensures ");
             contract &= !["{", "{}"].contains(&start);
-            if !contract && !start.starts_with("ghost use ") {
+            if !contract && !start.starts_with("ghost ") {
                 code.push_str(&without_literals(line));
             }
+            contract &= !start.ends_with(';');
             code.push('\n');
         }
         code

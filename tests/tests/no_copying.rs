@@ -12,10 +12,9 @@ use std::fs;
 const CASES: [&str; 2] = ["call_cases", "form_cases"];
 
 /// The crates that make lines out of words and numbers. What they are lent to read are words of the form language, which are constants: they borrow
-/// nothing, and nobody outside can lend them bytes: no public function takes any, and none of the file `PUT` is exported.
+/// nothing, and nobody outside can lend them bytes: no public function takes any, and what puts bytes is the crate's own.
 const WRITERS: [&str; 2] = ["answers", "reports"];
-const PUT: &str = "answers/src/put.rt";
-const EXPORTS: [&str; 3] = ["pub use ", "pub mod put;", "pub fn put_byte("];
+const EXPORTS: [&str; 3] = ["pub use ", "pub fn byte(", "pub fn word("];
 
 /// What an array holds, where that shows that it holds no bytes.
 const HELD: [&str; 11] = ["bool", "false", "u16", "u64", "0u64", "None", "Option<Node>", "Part", "Row", "Session", "Slot"];
@@ -38,8 +37,27 @@ const PLAIN_METHODS: [&str; 11] = [
 
 /// What the source has of these, by crate.
 const NAMED: &[(&str, &str)] = &[
-    // the one place that writes a byte of a call's answer
-    ("answers", "out[at] ="),
+    // the two places that write bytes of a call's answer: a digit, and a word, which is a constant
+    ("answers", "self.out[self.at] ="),
+    ("answers", ".copy_from_slice"),
+    // the output with its place, and what a line is made of: no bytes
+    ("answers", "*self"),
+    ("answers", "*n"),
+    ("answers", "*is_held"),
+    ("answers", "&self.node.has"),
+    ("answers", "&self.node.needs"),
+    ("reports", "*self"),
+    ("reports", "*self"),
+    ("reports", "*self"),
+    ("reports", "*self"),
+    ("reports", "*self"),
+    ("reports", "&mut output"),
+    ("reports", "&answer"),
+    ("reports", "&n"),
+    ("reports", "&n.nodes"),
+    ("reports", "&n.routes"),
+    // a table whose entries have lines
+    ("reports", "[E]"),
     // the caller's input, of which the rest is moved to the front
     ("pieces", ".copy_within"),
     // the program's own input and output: it is the caller, and these are the slices that it lends
@@ -92,12 +110,6 @@ const NAMED: &[(&str, &str)] = &[
     ("inputs", ".read"),
     // the next hops: numbers of nodes, whose digits a report writes
     ("calculus", "[Option<u8>; 1056]"),
-    ("reports", "[Option<u8>; 1056]"),
-    ("reports", "&Network"),
-    ("reports", "&Network"),
-    ("reports", "&Network"),
-    ("reports", "&n.nodes"),
-    ("reports", "&n.routes"),
     // a table of the network, of its nodes or of its next hops
     ("lookups", "[Option<T>]"),
     ("lookups", "T"),
@@ -139,7 +151,7 @@ fn arrays(code: &str) -> Vec<Found> {
         let held = array.split([';', ',']).next().unwrap_or_default();
         let indexes = before.ends_with(|c| is_named(c) || ")]\"#".contains(c)) || before.ends_with("#!");
         // a slice of bytes is lent
-        if !indexes && array != "u8" && !HELD.contains(&held) {
+        if !indexes && array != "u8" && !HELD.contains(&held) && !held.ends_with(" as u64") {
             found.push((before.len(), format!("[{array}]")));
         }
     }
@@ -161,13 +173,16 @@ fn stores(code: &str) -> Vec<Found> {
     found
 }
 
-/// What is lent by a mark: to write by `&mut `, to read by `&`.
-fn lends(code: &str, mark: &str) -> Vec<Found> {
+/// What is lent by a mark: to write by `&mut `, to read by `&`. A value or a reference of a type that the source declares shows by that type what
+/// it is, and `&self` has no more than its own.
+fn lends(code: &str, mark: &str, declared: &Declared) -> Vec<Found> {
     let mut found = Vec::new();
     for (before, behind) in places(code, mark) {
         let name = name_at(behind);
         let index = behind[name.len()..].strip_prefix('[').map_or(String::new(), |part| format!("[{}]", inside(part)));
-        if !["", "mut"].contains(&name) {
+        let is_type = name.starts_with(char::is_uppercase) && declared.names.contains(name);
+        let is_own = is_type || name == "self" && index.is_empty();
+        if !["", "mut"].contains(&name) && !is_own {
             found.push((before.len(), format!("{mark}{name}{index}")));
         }
     }
@@ -187,8 +202,9 @@ impl Declared {
         let mut names: BTreeSet<_> = crates.chain(["crate", "self", "super"].map(str::to_string)).collect();
         let mut methods: BTreeSet<_> = PLAIN_METHODS.map(str::to_string).into();
         for (before, word, behind) in codes.iter().flat_map(|code| words(code)) {
-            let declares = ["mod ", "struct ", "enum ", "const "].iter().any(|mark| before.ends_with(mark));
-            if declares && !before.ends_with("*const ") {
+            let declares = ["mod ", "struct ", "enum ", "trait ", "const "].iter().any(|mark| before.ends_with(mark));
+            let is_parameter = before.ends_with('<') && behind.starts_with(": ");
+            if declares && !before.ends_with("*const ") || is_parameter {
                 names.insert(word.to_string());
             }
             if before.ends_with("enum ") {
@@ -252,7 +268,7 @@ fn dereferences(code: &str) -> Vec<Found> {
 fn lent_to_read(code: &str) -> Vec<Found> {
     let mut found = Vec::new();
     for (before, behind) in places(code, "fn ") {
-        let is_public = before.rsplit('\n').next().is_some_and(|line| line.starts_with("pub "));
+        let is_public = before.rsplit('\n').next().is_some_and(|line| line.trim_start().starts_with("pub "));
         let parameters = inside(behind.split_once('(').unwrap_or_default().1);
         let is_bytes = |parameter: &str| parameter.ends_with("[u8]") || parameter.ends_with("str");
         let is_lent = |parameter: &str| is_bytes(parameter) && !parameter.contains("mut ");
@@ -272,17 +288,15 @@ fn found_in(source: &Source, code: &str, declared: &Declared, has_bytes: bool) -
     let mut found = [arrays(code), dereferences(code), library(code, declared)].concat();
     if has_bytes {
         found.extend(stores(code));
-        found.extend(lends(code, "&mut "));
-        found.extend(lends(code, "ref mut "));
+        found.extend(lends(code, "&mut ", declared));
+        found.extend(lends(code, "ref mut ", declared));
     }
     if WRITERS.contains(&source.crate_name()) {
-        found.extend(lends(code, "&"));
+        found.extend(lends(code, "&", declared));
         found.extend(
             EXPORTS.iter().flat_map(|mark| places(code, mark).map(|(before, _)| (before.len(), mark.to_string()))),
         );
-        if source.path != PUT {
-            found.extend(lent_to_read(code));
-        }
+        found.extend(lent_to_read(code));
     }
     found
 }
@@ -324,10 +338,10 @@ fn no_buffer_of_bytes_between_an_outcome_and_the_callers_slice() {
 fn a_buffer_put_in_is_found() {
     let planted = [
         // a local array, also one that does not show what it holds, and one of a byte string
-        ("answers/src/write.rt", "    match answer {", "let mut line = [0u8; 32];", "[0u8; 32]"),
-        ("answers/src/put.rt", "    put_byte(out, next, last)", "let line = [last];", "[last]"),
-        ("answers/src/room.rt", "    if size < room", "let mut word = *b\"(made\";", "*b"),
-        ("reports/src/network.rt", "    match hop {", "let mut routes: [u8; 1056] = [0; 1056];", "[0; 1056]"),
+        ("answers/src/write.rt", "        match *self {", "let mut line = [0u8; 32];", "[0u8; 32]"),
+        ("answers/src/put.rt", "        self.at = next;", "let line = [last];", "[last]"),
+        ("answers/src/room.rt", "    room <= size", "let mut word = *b\"(made\";", "*b"),
+        ("reports/src/network.rt", "        if let Some(next) = *self {", "let mut routes: [u8; 1056] = [0; 1056];", "[0; 1056]"),
         ("simulate/src/main.rt", "    run(&rt, &mut input", "let mut out = [0u8; 131072];", "[0u8; 131072]"),
         ("joins/src/merge.rt", "        end += size;", "let mut lines = [0u8; 65536];", "[0u8; 65536]"),
         // an array of a library
@@ -341,24 +355,24 @@ fn a_buffer_put_in_is_found() {
         // bytes on the heap, and a string
         ("pieces/src/lib.rt", "    let kept = keep", "let mut line: Vec<u8> = Default::default();", "Vec"),
         ("simulator/src/call.rt", "    let reading = read(line);", "let line = line.to_vec();", ".to_vec"),
-        ("reports/src/show.rt", "    write_end(out, next)", "let line = format!(in a; \"(end)\");", "format!"),
+        ("reports/src/show.rt", "    out.write(&End);", "let line = format!(in a; \"(end)\");", "format!"),
         ("joins/src/merge.rt", "        end += size;", "let line = str::from_utf8(line);", "str::from_utf8"),
         // a field
         ("calculus/src/answer.rt", "    pub spi: Spi,", "pub line: [u8; 32],", "[u8; 32]"),
         ("simulator/src/calls.rt", "    pub read: usize,", "pub lines: [Line; 4],", "[Line; 4]"),
         // a copy
         ("simulator/src/call.rt", "    let reading = read(line);", "out[0] = line[0];", "out[0] ="),
-        ("reports/src/show.rt", "    write_end(out, next)", "out[next] |= out[at];", "out[next] ="),
+        ("reports/src/show.rt", "    out.write(&End);", "out[next] |= out[at];", "out[next] ="),
         ("joins/src/merge.rt", "        end += size;", "out[end] = line[0];", "out[end] ="),
         ("pieces/src/lib.rt", "    let kept = keep", "out[..4].copy_from_slice(b\"(ok)\");", ".copy_from_slice"),
-        ("reports/src/show.rt", "    write_end(out, next)", "for byte in out.iter_mut() {}", ".iter_mut"),
+        ("reports/src/show.rt", "    out.write(&End);", "for byte in out.iter_mut() {}", ".iter_mut"),
         ("pieces/src/lib.rt", "    let kept = keep", "keep(&mut out[from..], 4, to);", "&mut out[from..]"),
-        ("answers/src/put.rt", "    put_word(out, q, b\")\\n\")", "put_word(out, q, &out[..at]);", "&out[..at]"),
+        ("answers/src/put.rt", "        self.word(b\"\\n\");", "self.word(&out[..at]);", "&out[..at]"),
         // a way for others to have bytes copied
         ("answers/src/write.rt", "// Writes", "pub fn copy(out: &mut [u8], s: &[u8]) {}", "fn copy"),
-        ("answers/src/put.rt", "// One byte.", "pub fn put_byte(out: &mut [u8], byte: u8) {}", "pub fn put_byte("),
-        ("answers/src/lib.rt", "pub mod write;", "pub use crate::put::put_word;", "pub use "),
-        ("answers/src/lib.rt", "pub mod write;", "pub mod put;", "pub mod put;"),
+        ("answers/src/put.rt", "    // One byte.", "pub fn byte(&mut self, byte: u8) {}", "pub fn byte("),
+        ("answers/src/lib.rt", "pub mod write;", "pub use crate::put::Output;", "pub use "),
+        ("answers/src/put.rt", "    // One byte.", "pub fn copy(&mut self, s: &[u8]) {}", "fn copy"),
     ];
     for (path, before, line, expected) in planted {
         let mut sources = searched();
