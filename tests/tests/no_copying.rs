@@ -17,23 +17,42 @@ const WRITERS: [&str; 2] = ["answers", "reports"];
 const EXPORTS: [&str; 3] = ["pub use ", "pub fn byte(", "pub fn word("];
 
 /// What an array holds, where that shows that it holds no bytes.
-const HELD: [&str; 11] = ["bool", "false", "u16", "u64", "0u64", "None", "Option<Node>", "Part", "Row", "Session", "Slot"];
+const HELD: [&str; 12] =
+    ["bool", "false", "u16", "u64", "0u64", "None", "Option<Node>", "Option<Slot>", "Part", "Row", "Session", "Slot"];
 
 /// What the language itself has that holds and copies no bytes: words, and methods.
-const PLAIN: [&str; 11] = ["Clone", "Copy", "Drop", "Eq", "Err", "None", "Ok", "Option", "PartialEq", "Self", "Some"];
-const PLAIN_METHODS: [&str; 11] = [
+const PLAIN: [&str; 15] = [
+    "Clone", "Copy", "Drop", "Eq", "Err", "Error", "Fn", "None", "Ok", "Option", "PartialEq", "Result", "Self", "Some",
+    "TryFrom",
+];
+const PLAIN_METHODS: [&str; 24] = [
+    "any",
     "contains",
+    "count",
     "enumerate",
+    "filter",
+    "find",
+    "is_ascii_digit",
     "is_empty",
-    "is_ok",
+    "is_none",
+    "is_none_or",
     "is_some",
+    "is_some_and",
     "iter",
     "len",
+    "map",
+    "map_or",
     "min",
     "ok",
+    "ok_or",
+    "position",
+    "rev",
     "saturating_sub",
+    "starts_with",
     "unwrap_or",
 ];
+/// A macro that tests.
+const PLAIN_MACRO: &str = "matches";
 
 /// What the source has of these, by crate.
 const NAMED: &[(&str, &str)] = &[
@@ -50,10 +69,8 @@ const NAMED: &[(&str, &str)] = &[
     ("reports", "*self"),
     ("reports", "*self"),
     ("reports", "*self"),
-    ("reports", "*self"),
     ("reports", "&mut output"),
     ("reports", "&answer"),
-    ("reports", "&n"),
     ("reports", "&n.nodes"),
     ("reports", "&n.routes"),
     // a table whose entries have lines
@@ -112,13 +129,36 @@ const NAMED: &[(&str, &str)] = &[
     ("calculus", "[Option<u8>; 1056]"),
     // a table of the network, of its nodes or of its next hops
     ("lookups", "[Option<T>]"),
-    ("lookups", "T"),
     ("networks", "[T]"),
-    ("networks", "T"),
+    // one of the parts of a table, taken out and put back
+    ("tables", "[T]"),
+    ("tables", "[T]"),
+    ("tables", "[T; N]"),
+    ("tables", "[T; N]"),
+    ("tables", "[table[N * at]; N]"),
+    ("tables", ".copy_from_slice"),
+    ("tables", ".copy_from_slice"),
+    ("tables", "[load_at(s, 0); 8]"),
+    ("lookups", "[T]"),
+    // numbers, rows and places, each behind a reference to one of them
+    ("effects", "*i"),
+    ("effects", "*i"),
+    ("effects", "*j"),
+    ("effects", "*l"),
+    ("effects", "*tag"),
+    ("rows", "*row"),
+    ("items", "*s"),
+    ("items", "*s"),
+    ("items", "*s"),
+    ("items", "*s"),
+    ("items", "*"),
+    ("forms", "*c"),
+    ("forms", "u64::from"),
+    // a lemma
+    ("lookups", "std::proofs::lemmas::List::take_all"),
     // other tables
     ("tables", "[0; 2048]"),
     ("tables", "[session; 8]"),
-    ("tables", "[slot; 128]"),
     ("tables", "[row; 256]"),
     ("tables", "[load_at(s, 0); 8]"),
     // a session's part of the items or of the rows
@@ -138,6 +178,7 @@ const NAMED: &[(&str, &str)] = &[
     ("simulator", "&mut state"),
     ("simulator", "&mut users"),
     ("simulator", "&mut users"),
+    ("simulator", "&mut state"),
 ];
 
 /// A place in the code, and what was found there.
@@ -245,7 +286,10 @@ fn library(code: &str, declared: &Declared) -> Vec<Found> {
             if calls && !declared.methods.contains(word) {
                 found.push((before.len(), format!(".{word}")));
             }
-        } else if behind.starts_with('!') && behind[1..].trim_start().starts_with(['(', '[', '{']) {
+        } else if behind.starts_with('!')
+            && word != PLAIN_MACRO
+            && behind[1..].trim_start().starts_with(['(', '[', '{'])
+        {
             found.push((before.len(), format!("{word}!")));
         } else if before.ends_with("use ") || behind.starts_with("::") && !is_imported {
             if !is_own {
@@ -341,11 +385,16 @@ fn a_buffer_put_in_is_found() {
         ("answers/src/write.rt", "        match *self {", "let mut line = [0u8; 32];", "[0u8; 32]"),
         ("answers/src/put.rt", "        self.at = next;", "let line = [last];", "[last]"),
         ("answers/src/room.rt", "    room <= size", "let mut word = *b\"(made\";", "*b"),
-        ("reports/src/network.rt", "        if let Some(next) = *self {", "let mut routes: [u8; 1056] = [0; 1056];", "[0; 1056]"),
+        (
+            "reports/src/network.rt",
+            "        if let Some(next) = *self {",
+            "let mut routes: [u8; 1056] = [0; 1056];",
+            "[0; 1056]",
+        ),
         ("simulate/src/main.rt", "    run(&rt, &mut input", "let mut out = [0u8; 131072];", "[0u8; 131072]"),
         ("joins/src/merge.rt", "        end += size;", "let mut lines = [0u8; 65536];", "[0u8; 65536]"),
         // an array of a library
-        ("simulator/src/call.rt", "    let reading = read(line);", "let mut line = io::buffer();", "io::buffer"),
+        ("simulator/src/call.rt", "    let asked = read(line);", "let mut line = io::buffer();", "io::buffer"),
         (
             "simulator/src/call.rt",
             "use calculus::state::State;",
@@ -354,14 +403,14 @@ fn a_buffer_put_in_is_found() {
         ),
         // bytes on the heap, and a string
         ("pieces/src/lib.rt", "    let kept = keep", "let mut line: Vec<u8> = Default::default();", "Vec"),
-        ("simulator/src/call.rt", "    let reading = read(line);", "let line = line.to_vec();", ".to_vec"),
+        ("simulator/src/call.rt", "    let asked = read(line);", "let line = line.to_vec();", ".to_vec"),
         ("reports/src/show.rt", "    out.write(&End);", "let line = format!(in a; \"(end)\");", "format!"),
         ("joins/src/merge.rt", "        end += size;", "let line = str::from_utf8(line);", "str::from_utf8"),
         // a field
         ("calculus/src/answer.rt", "    pub spi: Spi,", "pub line: [u8; 32],", "[u8; 32]"),
         ("simulator/src/calls.rt", "    pub read: usize,", "pub lines: [Line; 4],", "[Line; 4]"),
         // a copy
-        ("simulator/src/call.rt", "    let reading = read(line);", "out[0] = line[0];", "out[0] ="),
+        ("simulator/src/call.rt", "    let asked = read(line);", "out[0] = line[0];", "out[0] ="),
         ("reports/src/show.rt", "    out.write(&End);", "out[next] |= out[at];", "out[next] ="),
         ("joins/src/merge.rt", "        end += size;", "out[end] = line[0];", "out[end] ="),
         ("pieces/src/lib.rt", "    let kept = keep", "out[..4].copy_from_slice(b\"(ok)\");", ".copy_from_slice"),
