@@ -5,23 +5,14 @@ use mathlib.Core.List.{List, [], ◌∷◌}
 use Prim.Native.Nat.{ℕ, ◌+◌, ◌^◌, ◌≤◌, ◌<◌}
 use native.Mathlib.Omega.{arith}
 use lib.ListN.{length, length-append}
-use mir.Val.{Val}
-use denote.Laws.{Is}
-use denote.Enum.Declared.{row}
-use Rattle.std.specs.Prelude.{Result, Ok, Err}
 use Rattle.calculus.specs.Answer.{refusal_number, loss_number}
-use Rattle.calculus.specs.declared.answer.Answer.{Answer}
-use Rattle.calculus.specs.declared.answer.Answer.TheVariants.{Made, MadeByDefault, MadeTwo, Lost, Denied, Opened, Delivered, Closed}
 use Rattle.calculus.specs.declared.answer.Loss as loss
 use Rattle.calculus.specs.declared.answer.Loss.TheVariants.{Unprotected, HopLimit, NoRoute, NoTunnel, WrongTunnel, Exhausted}
 use Rattle.calculus.specs.declared.answer.Refusal as refusal
 use Rattle.calculus.specs.declared.answer.Refusal.TheVariants as refusals
 use Rattle.calculus.specs.declared.answer.ShownAssociation.{ShownAssociation}
 use Rattle.calculus.specs.declared.network.Kind.{Kind}
-use Rattle.calculus.specs.contracts.answer.Answer.{the_type, the_row}
 use Rattle.forms.specs.Bytes.{bytes, decimal}
-use Rattle.calculus.specs.contracts.answer.Refusal as refusals_row
-use Rattle.std.specs.contracts.result.Result.{the_type}
 use Rattle.forms.specs.Text.{list_text, route, form_line}
 use Rattle.forms.specs.Request.{node_of}
 use Rattle.forms.specs.Answer.{line_text, made_by_default_line, answer_text, association_line}

@@ -23,11 +23,12 @@ use Rattle.model.specs.Row.{one_more, one_less, lowered, stands}
 use Rattle.model.specs.State.{load, store, blank_session}
 use Rattle.model.specs.Requests.{Check, checked, refused, accepted, network_turn, node_turn, route_turn, Move, open_move, step_at, stepped, step_move, send_move, close_move, drop_move, changed, performed}
 use Rattle.model.specs.Calls.{answer, Reply, refusal_in, one_answer, requested, replied_to}
-use Rattle.model.specs.Turn.{answer_in, part_after, opened_after, users_after, session_of, requested_of, turn_of, part_with, opened_with, users_with, users_of, answers_ok, network_of, report_of, lines_as, Turned, turned, state_with, Parts, Held}
+use Rattle.model.specs.Turn.{answer_in, part_after, opened_after, users_after, session_of, requested_of, turn_of, part_with, opened_with, users_with, users_of, answers_ok, network_of, report_of, lines_as, Turned, turned, state_with, Parts, Held, part_of}
 use Rattle.model.proofs.Checks.{checked_either}
 use Rattle.model.proofs.Steps.{step_either}
 use Rattle.model.proofs.Users.{fold_length}
-use Rattle.model.proofs.Parts.{Sized, Whole, Numbered, store_sized, load_stored, load_others}
+use Rattle.model.proofs.Moves.{FairMove, fair_open, fair_step, fair_send, fair_close, fair_drop}
+use Rattle.model.proofs.Parts.{load_whole, Sized, Whole, Numbered, store_sized, load_stored, load_others}
 
 -- ---- a part that is stored as it was loaded changes nothing
 
@@ -206,10 +207,31 @@ users_length : (n : Network) (users : List ℕ) (t : Part) (p : Asked) → lengt
 users_length n users t (Ok q) = with_length n users t q
 users_length n users t (Err r) = refl
 
+-- and it leaves a part whole
+after_whole : (t : Part) → Whole t → (m : Move) → FairMove t m → Whole (part_after t m)
+after_whole t h (Err r) f = h
+after_whole t h (Ok m) f = f.whole
+
+with_whole : (n : Network) (users : List ℕ) (t : Part) → Whole t → (q : request.Request) → Whole (part_with n users t q)
+unfolding part_with
+with_whole n users t h (Node a k has needs) = h
+with_whole n users t h (Route a b next) = h
+with_whole n users t h (Open u c d) = after_whole t h _ (fair_open t h n c d)
+with_whole n users t h (Step u k) = after_whole t h _ (fair_step t h n (stands users false) k.0)
+with_whole n users t h (Send u w tag) = after_whole t h _ (fair_send t h w tag)
+with_whole n users t h (Close u) = after_whole t h _ (fair_close t h)
+with_whole n users t h Show = h
+with_whole n users t h Net = h
+with_whole n users t h (Drop u e) = after_whole t h _ (fair_drop t h e)
+
+part_whole : (n : Network) (users : List ℕ) (t : Part) → Whole t → (p : Asked) → Whole (part_of n users t p)
+part_whole n users t h (Ok q) = with_whole n users t h q
+part_whole n users t h (Err r) = h
+
 module _ {s : State} {opened : Bool} {n : Network} {parts : List Part} {users : List ℕ} (hs : Sized s) (h : Held s opened n parts users) where
   pub held_further : (r : Asked) → Numbered (session_of r) → (x : Turned) (z : Part)
-      → x ≡ turned opened n users (get_or parts (session_of r - 1) z) r → Whole x.part → Further s r n parts x
-  held_further r hu x z ex hx = rw (← h.network) go
+      → x ≡ turned opened n users (get_or parts (session_of r - 1) z) r → Further s r n parts x
+  held_further r hu x z ex = rw (← h.network) go
     where
       part : get_or parts (session_of r - 1) z ≡ load s (session_of r)
       part =
@@ -218,6 +240,9 @@ module _ {s : State} {opened : Bool} {n : Network} {parts : List Part} {users : 
 
       same : x ≡ turned s.opened s.network s.users (load s (session_of r)) r
       same = rw (ex, part, h.opens, h.network, h.shared)
+
+      whole : Whole x.part
+      whole = rw same (part_whole s.network s.users (load s (session_of r)) (load_whole s hs (session_of r) hu) r)
 
       reply : replied_to s r ≡ reply_of s r x
       reply = rw same (turn_whole s r)
@@ -229,8 +254,8 @@ module _ {s : State} {opened : Bool} {n : Network} {parts : List Part} {users : 
       go =
           let e = ap (λ (y : Reply). y.state) reply in
           record {
-            sized = rw e (left_sized hs h.own (session_of r) hu x hx size);
-            held = rw e (left_held hs h.own (session_of r) hu x hx);
+            sized = rw e (left_sized hs h.own (session_of r) hu x whole size);
+            held = rw e (left_held hs h.own (session_of r) hu x whole);
             lines = ap (λ (y : Reply). y.lines) reply;
           }
 

@@ -9,8 +9,6 @@ use borrow.Author.Tests.{ltb-false}
 use lib.Dec.{ltb}
 use lib.ListN.{length, get_or, set, take, drop, length-drop}
 use lib.Seq.{sets-eq, drop-drop}
-use Rattle.calculus.specs.declared.network.Network.{Network}
-use Rattle.calculus.specs.declared.state.Moved.{Moved}
 use Rattle.calculus.specs.declared.state.Part.{Part}
 use Rattle.calculus.specs.declared.state.State.{State}
 use Rattle.calculus.proofs.Tests.{clash, within_bounds}
@@ -21,7 +19,7 @@ use Rattle.forms.specs.Request.{Asked, asked}
 use Rattle.forms.proofs.Splits.{Inside, line_inside}
 use Rattle.model.specs.Batch.{Batch, is_over, is_over_at, next_call, one_more, answered_lines, answered_text}
 use Rattle.model.specs.Calls.{answered, replied_to, lines_text, lines_of}
-use Rattle.model.specs.Turn.{session_of, turn_of, users_of, answers_ok, network_of, report_of, lines_as, Parts, Held}
+use Rattle.model.specs.Turn.{session_of, report_of, lines_as, Turned, shared_with, Parts, Held}
 use Rattle.model.proofs.Batch.{lines_over, lines_more}
 use Rattle.model.proofs.Parts.{Sized, Whole, Numbered}
 use Rattle.model.proofs.Turns.{Further, held_further, held_whole}
@@ -29,25 +27,24 @@ use Rattle.answers.specs.Write.{Writes}
 use Rattle.reports.specs.Puts.{Puts}
 use Rattle.reports.proofs.Puts.{puts_written, puts_size}
 use Rattle.simulator.specs.Batch.{Answers}
+use Rattle.simulator.specs.Line.{line_turned}
 use Rattle.simulator.proofs.Range.{asked_session}
 
 -- how far the text is read and the output written, at the state that is reached
 abbrev reached : State → List ℕ → ℕ → ℕ → Batch
 reached s out from written = record { state = s; read = from; out = out; written = written }
 
--- the calls so far lead from s to `state`, which the pieces hold; what is left are `fuel` lines at most. The loop goes on, or no
--- further call is to be made
-pub record Answering (s : State) (text out₀ out : List ℕ) (parts : List Part) (opened : Bool) (n : Network) (users : List ℕ) (from written : ℕ)
-    (going : Bool) : Type 0 where
+-- the calls so far lead from s to `state`, which the code holds in pieces: the parts, and in `now` what all sessions share. What are
+-- left are `fuel` lines at most
+pub record Answering (s : State) (text out₀ out : List ℕ) (now : State) (parts : List Part) (from written : ℕ) : Type 0 where
   pub state : State
   pub fuel : ℕ
   pub same : answered_text s text out₀ ≡ answered_lines fuel text (reached state out from written)
   pub enough : length text ≤ from + fuel
   pub sized : Sized state
-  pub held : Held state opened n parts users
+  pub held : Held state now.opened now.network parts now.users
   pub size : length out ≡ length out₀
   pub room : written ≤ length out
-  pub over : going ≡ false → is_over text (reached state out from written) ≡ true
 
 -- ---- the next call
 
@@ -102,22 +99,20 @@ module _ (s : State) (text out : List ℕ) (from written stop next : ℕ) (r : A
       let o = p.put.bytes ∙ sets-eq lines out written (omega (arith, p.few)) ∙ append_assoc (take written out) lines (drop (written + length lines) out) in
       rw (d, h, ← e.same, p.put.place, o, drop-drop (length lines) written out)
 
-module _ {s : State} {text out₀ out : List ℕ} {parts : List Part} {opened : Bool} {n : Network} {users : List ℕ} {from written : ℕ}
-    {going : Bool} (w : Answering s text out₀ out parts opened n users from written going) where
-  pub answering_more : going ≡ true → {stop next : ℕ} → Next text from (length out - written) stop next → (r : Asked) → Reads text from stop r
-      → (u : ℕ) → u ≡ session_of r → (m : Moved) (left : List ℕ) (z : Part)
-      → m ≡ turn_of opened n users (get_or parts (u - 1) z) r → left ≡ users_of n users (get_or parts (u - 1) z) r
-      → Whole m.part → (opened' : Bool) → opened' ≡ (m.opens || opened)
-      → (n' : Network) → n' ≡ cond (answers_ok m.answer) (network_of n r) n → {out' : List ℕ} {written' : ℕ}
-      → Writes 65536 out written (lines_text (lines_as n left m.answer (report_of r))) out' written'
-      → Answering s text out₀ out' (set parts (u - 1) m.part) opened' n' left next written' going
-  answering_more up {stop} {next} f r reads u eu m left z em el hm opened' eo n' en {out'} {written'} p = go w.fuel w.same w.enough
+module _ {s : State} {text out₀ out : List ℕ} {now : State} {parts : List Part} {from written : ℕ}
+    (w : Answering s text out₀ out now parts from written) where
+  pub answering_more : {stop next : ℕ} → Next text from (length out - written) stop next → (r : Asked) → Reads text from stop r
+      → (u : ℕ) → u ≡ session_of r → (z : Part) (x : Turned) → x ≡ line_turned now (get_or parts (u - 1) z) r
+      → (now' : State) → now' ≡ shared_with now x → (t : Part) → t ≡ x.part → {out' : List ℕ} {written' : ℕ}
+      → Writes 65536 out written (lines_text (lines_as now.network x.users x.answer (report_of r))) out' written'
+      → Answering s text out₀ out' now' (set parts (u - 1) t) next written'
+  answering_more {stop} {next} f r reads u eu z x ex now' en t et {out'} {written'} p = go w.fuel w.same w.enough
     where
       numbered : Numbered (session_of r)
       numbered = let h = reads_numbered reads in record { least = h.0; most = h.1 }
 
-      further : Further w.state r opened n parts users m left
-      further = held_further w.sized w.held r numbered m left z (rw eu at em) (rw eu at el) hm
+      further : Further w.state r now.network parts x
+      further = held_further w.sized w.held r numbered x z (rw eu at ex)
 
       fits : written + 65536 ≤ length out
       fits = omega (arith, f.roomy)
@@ -129,7 +124,7 @@ module _ {s : State} {text out₀ out : List ℕ} {parts : List Part} {opened : 
       one = one_more_lem w.state text out from written stop next r (or_false _ _ f.goes_on) reads puts fits
 
       go : (k : ℕ) → answered_text s text out₀ ≡ answered_lines k text (reached w.state out from written) → length text ≤ from + k
-          → Answering s text out₀ out' (set parts (u - 1) m.part) opened' n' left next written' going
+          → Answering s text out₀ out' now' (set parts (u - 1) t) next written'
       go zero q h = absurd (omega (arith, f.inside))
       go (suc k) q h =
           record {
@@ -138,30 +133,14 @@ module _ {s : State} {text out₀ out : List ℕ} {parts : List Part} {opened : 
             same = q ∙ lines_more k text (reached w.state out from written) f.goes_on ∙ rw (f.found, one);
             enough = omega (arith, f.inside);
             sized = further.sized;
-            held = rw (eu, eo, en) further.held;
+            held = rw (en, et, eu) further.held;
             size = puts_size puts ∙ w.size;
             room = omega (arith, fits, puts.few, puts.put.place, puts_size puts);
-            over = λ e. clash cc;
           }
-
-  pub answering_over : next_call text from (length out - written) ≡ None → Answering s text out₀ out parts opened n users from written false
-  answering_over none =
-      record {
-        state = w.state;
-        fuel = w.fuel;
-        same = w.same;
-        enough = w.enough;
-        sized = w.sized;
-        held = w.held;
-        size = w.size;
-        room = w.room;
-        over = λ e. call_none text from (length out - written) none;
-      }
 
 -- ---- before the first line, and behind the last
 
-pub answering_first : (s : State) (text out : List ℕ) {parts : List Part} → Sized s → Parts s parts
-    → Answering s text out out parts s.opened s.network s.users 0 0 true
+pub answering_first : (s : State) (text out : List ℕ) {parts : List Part} → Sized s → Parts s parts → Answering s text out out s parts 0 0
 answering_first s text out h p =
     record {
       state = s;
@@ -172,18 +151,14 @@ answering_first s text out h p =
       held = record { opens = refl; network = refl; own = p; shared = refl };
       size = refl;
       room = omega arith;
-      over = λ e. clash cc;
     }
 
-pub answering_last : {s : State} {text out₀ out : List ℕ} {parts : List Part} {opened : Bool} {n : Network} {users : List ℕ} {from written : ℕ}
-    {going : Bool} → Answering s text out₀ out parts opened n users from written going → going ≡ false → (r : State) → Sized r → Parts r parts
-    → Answers out
-    (record {
-      state = record { opened = opened; network = n; sessions = r.sessions; items = r.items; rows = r.rows; users = users };
-      read = from;
-      written = written;
-    })
-    (answered_text s text out₀)
-answering_last {text = text} {out = out} {from = from} {written = written} w e r hr p =
-    let q = w.same ∙ lines_over w.fuel text (reached w.state out from written) (w.over e) in
-    rw (q, held_whole w.sized hr w.held p) (record { answered = refl; output = refl })
+pub answering_last : {s : State} {text out₀ out : List ℕ} {now : State} {parts : List Part} {from written : ℕ}
+    → Answering s text out₀ out now parts from written → next_call text from (length out - written) ≡ End
+    → (r : State) → Sized r → Held r now.opened now.network parts now.users
+    → Answers out (record { state = r; read = from; written = written }) (answered_text s text out₀)
+answering_last {text = text} {out = out} {from = from} {written = written} w none r hr p =
+    let q = w.same ∙ lines_over w.fuel text (reached w.state out from written) (call_none text from (length out - written) none) in
+    let e = held_whole w.sized hr w.held p.own in
+    let same : r ≡ w.state = rw (← p.opens, ← p.network, ← p.shared) at e in
+    rw (q, same) (record { answered = refl; output = refl })

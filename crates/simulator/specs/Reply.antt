@@ -1,17 +1,15 @@
 -- A reply as the code gives it. Cited by `call`. Assumes nothing.
-use Rattle.std.specs.Prelude.{◌≡◌, List, ℕ, length}
+use Rattle.std.specs.Prelude.{◌≡◌, List, Result, Ok, Err, ℕ, length}
 use Rattle.std.proofs.Math.Option.{Option, none, some}
 use Rattle.calculus.specs.declared.answer.Refusal.{Refusal}
 use Rattle.model.specs.Calls as calls
 use Rattle.model.specs.Calls.{lines_of, output_after}
-use Rattle.simulator.specs.declared.call.Status.{Status}
-use Rattle.simulator.specs.declared.call.Status.TheVariants.{Answered, Refused}
 use Rattle.simulator.specs.declared.call.Reply.{Reply}
 
 -- "Each returns its number": the refusal, if refused
-abbrev pub status_of : Option Refusal → Status
-status_of none = Answered
-status_of (some r) = Refused r
+abbrev pub status_of : Option Refusal → Result Unit Refusal
+status_of none = Ok tt
+status_of (some r) = Err r
 
 -- a reply with the number of bytes in place of the lines: the lines are in the lent output
 abbrev pub reply_of : calls.Reply → Reply

@@ -4,14 +4,13 @@ ghost use Rattle.std.specs.Prelude.{◌≡◌};
 ghost use Rattle.model.specs.Batch.{is_last, next_call, answered_text};
 ghost use Rattle.simulator.specs.Batch.{Answers};
 
+use crate::line::answer_line;
 use calculus::state::State;
 use forms::line::Line;
 use forms::read::read;
 use lines::line_at;
-use networks::after::network_after;
-use reports::write_lines;
 use tables::part::{pack, unpack};
-use turns::{is_opened, session_of, turn};
+use turns::session_of;
 
 // The state that the calls leave, how many bytes of the text they are, and how many bytes of the lent output they wrote.
 #[derive(Clone, Copy)]
@@ -45,40 +44,20 @@ fn next_call(text: &[u8], from: usize, room: usize) -> Option<Line>
 pub fn calls(s: State, text: &[u8], out: &mut [u8]) -> Answered
     ensures { Answers out.new result (answered_text s text.now out.old) }
 {
-    let mut parts = unpack(&s);
-    let mut opened = s.opened;
-    let mut network = s.network;
-    let mut users = s.users;
+    let mut state = s;
+    let mut parts = unpack(&state);
     let mut from: usize = 0;
     let mut written: usize = 0;
-    let mut going = true;
-    while going {
-        match next_call(text, from, out.len() - written) {
-            Some(line) => {
-                let asked = read(&text[from..line.stop]);
-                let session = session_of(asked);
-                let at = session.0 as usize - 1;
-                let part = parts[at];
-                let moved = turn(opened, &network, &mut users, part, asked);
-                let answer = moved.answer;
-                let left = moved.part;
-                parts[at] = left;
-                opened = is_opened(moved.opens, opened);
-                written = write_lines(out, written, &network, &users, asked, answer);
-                network_after(&mut network, asked, answer);
-                from = line.next;
-            }
-            None => {
-                going = false;
-            }
-        }
+    while let Some(line) = next_call(text, from, out.len() - written) {
+        let asked = read(&text[from..line.stop]);
+        let at = session_of(asked).0 as usize - 1;
+        let part = &mut parts[at];
+        let (behind, _) = answer_line(&mut state, part, asked, out, written);
+        written = behind;
+        from = line.next;
     }
-    let mut state = pack(s, &parts);
-    state.opened = opened;
-    state.network = network;
-    state.users = users;
     Answered {
-        state,
+        state: pack(state, &parts),
         read: from,
         written,
     }
