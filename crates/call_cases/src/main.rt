@@ -5,10 +5,11 @@
 
 ghost use Rattle.std.specs.Prelude.{◌≤◌, length};
 
+use calculus::answer::Refusal;
 use calculus::state::State;
 use inputs::read_full;
 use lines::line_at;
-use simulator::call::{Status, call};
+use simulator::call::call;
 use std::io::{self, Print};
 use tables::fresh::fresh;
 
@@ -20,10 +21,10 @@ fn put_number(rt: &HostRuntime, n: u64) -> io::Result<()> {
     print!(rt; " {n}")
 }
 
-fn put_status(rt: &HostRuntime, status: Status) -> io::Result<()> {
+fn put_status(rt: &HostRuntime, status: Result<(), Refusal>) -> io::Result<()> {
     match status {
-        Status::Answered => put(rt, b"answered"),
-        Status::Refused(refusal) => {
+        Ok(()) => put(rt, b"answered"),
+        Err(refusal) => {
             put(rt, b"refusal")?;
             put_number(rt, u8::from(refusal) as u64)
         }

@@ -28,7 +28,7 @@ fn put_dotted<L: OutputLine>(rt: &HostRuntime, line: &L) -> io::Result<()> {
     put(rt, b"\n")
 }
 
-fn put_answer(rt: &HostRuntime, answer: Answer) -> io::Result<()> {
+fn put_answer(rt: &HostRuntime, answer: Result<Answer, Refusal>) -> io::Result<()> {
     put_dotted(rt, &answer)
 }
 
@@ -157,7 +157,7 @@ fn put_refusals(rt: &HostRuntime) -> io::Result<()> {
         Refusal::NoSuchTunnel,
     ];
     for refusal in refusals {
-        put_answer(rt, Answer::No(refusal))?;
+        put_answer(rt, Err(refusal))?;
     }
     Ok(())
 }
@@ -172,7 +172,7 @@ fn put_losses(rt: &HostRuntime) -> io::Result<()> {
         Loss::Exhausted,
     ];
     for loss in losses {
-        put_answer(rt, Answer::Lost(loss))?;
+        put_answer(rt, Ok(Answer::Lost(loss)))?;
     }
     Ok(())
 }
@@ -189,7 +189,7 @@ fn put_answers(rt: &HostRuntime) -> io::Result<()> {
         Answer::Closed,
     ];
     for answer in answers {
-        put_answer(rt, answer)?;
+        put_answer(rt, Ok(answer))?;
     }
     put_losses(rt)?;
     put_refusals(rt)
@@ -254,7 +254,8 @@ fn put_gateway(rt: &HostRuntime, out: &mut [u8]) -> io::Result<()> {
 // Where one byte too few is left nothing is written, and the place stays.
 fn put_nothing(rt: &HostRuntime) -> io::Result<()> {
     let mut out = [b'.'; 35];
-    put_number(rt, write(&mut out, 4, &Answer::Ok) as u64)?;
+    let accepted: Result<Answer, Refusal> = Ok(Answer::Ok);
+    put_number(rt, write(&mut out, 4, &accepted) as u64)?;
     put_number(rt, write(&mut out, 4, &association()) as u64)?;
     put_number(rt, write(&mut out, 4, &End) as u64)?;
     let next = write(&mut out, 4, &route(1, 4, 2));

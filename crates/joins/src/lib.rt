@@ -15,7 +15,7 @@ use crate::merge::{clash, merge};
 use answers::write::write;
 use calculus::answer::{Answer, Refusal};
 use calculus::network::Network;
-use simulator::call::{Status, call};
+use simulator::call::call;
 use simulator::calls::calls;
 use tables::fresh::fresh;
 
@@ -23,7 +23,7 @@ use tables::fresh::fresh;
 #[derive(Clone, Copy)]
 pub struct JoinReply {
     pub written: usize,
-    pub status: Status,
+    pub status: Result<(), Refusal>,
 }
 
 // Whether a file is as `(net)` writes it, and the network that it then is the text of.
@@ -62,10 +62,11 @@ fn refuse(out: &mut [u8], refusal: Refusal) -> JoinReply
     requires { 65536 ≤ length out.old }
     ensures { JoinReplies out.old (spec.refused_join refusal) out.new result }
 {
-    let written = write(out, 0, &Answer::No(refusal));
+    let answer: Result<Answer, Refusal> = Err(refusal);
+    let written = write(out, 0, &answer);
     JoinReply {
         written,
-        status: Status::Refused(refusal),
+        status: Err(refusal),
     }
 }
 
@@ -86,7 +87,7 @@ fn join_networks<'a>(
     let written = merge(a, b, n, m, out);
     JoinReply {
         written,
-        status: Status::Answered,
+        status: Ok(()),
     }
 }
 
@@ -105,7 +106,7 @@ pub fn join<'a>(
     if out.len() < 65536 {
         return JoinReply {
             written: 0,
-            status: Status::Refused(Refusal::Short),
+            status: Err(Refusal::Short),
         };
     }
     let first = find_network(is_a_read, a);
