@@ -1,5 +1,5 @@
--- A text put into an output. Private functions of `answers` and `reports` cite it. Assumes nothing.
-use Rattle.std.specs.Prelude.{ℕ, ◌+◌, ◌≡◌, Bool, cond, List, [], length}
+-- A text put into an output. Contracts of `answers` and `reports` cite it. Assumes nothing.
+use Rattle.std.specs.Prelude.{ℕ, ◌+◌, ◌≡◌, List, length}
 use Rattle.std.proofs.lemmas.List.Edits.{sets}
 use Rattle.answers.specs.declared.put.Output.{Output}
 use Rattle.answers.specs.Write.{Writes}

@@ -1,12 +1,13 @@
 // Lines written straight into the caller's slice, where there is room for them; and those of answers and refusals.
 ghost use Rattle.std.specs.Prelude.{ℕ, List, ◌+◌, ◌≤◌, length};
-ghost use Rattle.forms.specs.Answer.{answer_text};
+ghost use Rattle.forms.specs.Answer.{made_by_default_line, answer_text};
 ghost use Rattle.answers.specs.Write.{Writes};
 ghost use Rattle.answers.specs.Put.{Adds, Written};
 
 use crate::put::Output;
 use crate::room::has_room;
 use calculus::answer::{Answer, Refusal};
+use calculus::number::ItemNumber;
 
 // A line, newline and all.
 pub trait OutputLine {
@@ -33,6 +34,18 @@ impl<'a> Output<'a> {
             line.put(self);
         }
     }
+
+    // The line of an item that a default route moved.
+    #[tactic(auto, using(crate::proofs::Widths::width_number))]
+    fn made_by_default(&mut self, item: ItemNumber)
+        requires { self.old.at + 32 ≤ length self.old.out.now }
+        ensures added { Adds self.old (made_by_default_line item.0) self.new }
+        ensures few { self.new.at ≤ self.old.at + 32 }
+    {
+        self.word(b"(made ");
+        self.number(item.0 as u64);
+        self.word(b" default)\n");
+    }
 }
 
 // Writes a line at `at` and answers the place behind it; where fewer bytes are left than the longest has, writes nothing and
@@ -52,16 +65,12 @@ impl OutputLine for Result<Answer, Refusal> {
 
     const LONGEST: usize = 32;
 
-    #[tactic(auto, using(crate::proofs::Widths::width_number, crate::proofs::Widths::width_one, crate::proofs::Widths::width_two), unfolding(forms::specs::Answer::answer_text))]
+    #[tactic(auto, using(crate::proofs::Widths::width_one, crate::proofs::Widths::width_two), unfolding(forms::specs::Answer::answer_text))]
     fn put(&self, out: &mut Output<'_>) {
         match *self {
             Ok(Answer::Ok) => out.word(b"(ok)\n"),
             Ok(Answer::Made(item)) => out.line(b"(made", &[item.0 as u64]),
-            Ok(Answer::MadeByDefault(item)) => {
-                out.word(b"(made ");
-                out.number(item.0 as u64);
-                out.word(b" default)\n");
-            }
+            Ok(Answer::MadeByDefault(item)) => out.made_by_default(item),
             Ok(Answer::MadeTwo(item, next)) => out.line(b"(made", &[item.0 as u64, next.0 as u64]),
             Ok(Answer::Lost(loss)) => out.line(b"(lost", &[u8::from(loss) as u64]),
             Ok(Answer::Denied) => out.word(b"(denied)\n"),

@@ -15,7 +15,6 @@ use crate::network::put_network;
 use crate::show::put_shown;
 use answers::put::Output;
 use answers::room::has_room;
-use answers::write::write;
 use calculus::answer::{Answer, Refusal};
 use calculus::network::Network;
 use calculus::request::{Report, Request};

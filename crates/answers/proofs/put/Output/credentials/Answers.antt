@@ -1,7 +1,7 @@
 -- Each credential that is held is put in front of what is left.
 use Rattle.std.proofs.Common.{arith, length-append, rules}
 use Rattle.forms.proofs.Credentials.{credentials_width}
-use Rattle.answers.proofs.Sets.{left_all, left_part, adds_append}
+use Rattle.answers.proofs.Sets.{left_part, adds_append}
 use Rattle.answers.proofs.Credentials.{left_held, left_not_held, left_end}
 use Rattle.answers.proofs.put.Output.credentials.Goals.{then-is_held, else-is_held}
 use Rattle.answers.proofs.put.Output.credentials.Goals as goal

@@ -1,6 +1,6 @@
 -- Each number is put in front of what is left.
 use Rattle.std.proofs.Common.{arith, length-append}
-use Rattle.answers.proofs.Sets.{left_all, left_part}
+use Rattle.answers.proofs.Sets.{left_part}
 use Rattle.answers.proofs.Lists.{left_number, left_bracket}
 use Rattle.answers.proofs.put.Output.numbers.Goals as goal
 
