@@ -154,7 +154,7 @@ answering_first s text out h p =
     }
 
 pub answering_last : {s : State} {text out₀ out : List ℕ} {now : State} {parts : List Part} {from written : ℕ}
-    → Answering s text out₀ out now parts from written → next_call text from (length out - written) ≡ End
+    → Answering s text out₀ out now parts from written → next_call text from (length out - written) ≡ None
     → (r : State) → Sized r → Held r now.opened now.network parts now.users
     → Answers out (record { state = r; read = from; written = written }) (answered_text s text out₀)
 answering_last {text = text} {out = out} {from = from} {written = written} w none r hr p =

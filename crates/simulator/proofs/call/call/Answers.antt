@@ -16,5 +16,5 @@ returns c =
     let part = rw numbered at c.load-part.ensures in
     let left = c.answer_line-written in
     replied c.args.s c.args.line.now c.read-asked.result c.read-asked.ensures u its c.load-part.result (part ∙ ap (load c.args.s) its)
-    (omega arith) left.ensures.lines left.new.s left.ensures.shared left.new.t left.ensures.part c.store.result
+    (omega arith) left.ensures.lines left.new.s left.ensures.shared left.new.t left.ensures.part c.store.new.s
     (rw numbered at c.store.ensures) left.result.1 left.ensures.status

@@ -3,21 +3,21 @@ use Rattle.std.proofs.Common.{rules, ◌≡◌, arith, ◌-◌, ◌≤◌, lengt
 use Rattle.simulator.proofs.Batches.{answering_first, answering_more, answering_last}
 use Rattle.simulator.proofs.Batches.{Next, next_found, Reads, reads_numbered}
 use Rattle.simulator.proofs.calls.calls.Goals as goal
-use Rattle.simulator.proofs.calls.calls.Goals.{In-Found, After-session_of}
+use Rattle.simulator.proofs.calls.calls.Goals.{In-Some, After-session_of}
 
 -- the line that was found
-found : (c : In-Found)
-    → Next c.args.text.now c.loop-stop.from (length c.loop-stop.out - c.loop-stop.written) c.in-Found.stop c.in-Found.next
-found c = next_found _ _ _ _ _ (sym c.next_call.ensures ∙ c.in-Found.is)
+found : (c : In-Some)
+    → Next c.args.text.now c.loop-line.from (length c.loop-line.out - c.loop-line.written) c.in-Some.line.stop c.in-Some.line.next
+found c = next_found _ _ _ c.in-Some.line (sym c.next_call.ensures ∙ c.in-Some.is)
 
 -- the session that it names
 numbered : (c : After-session_of) → (1 ≤ c.session_of.result.0) × (c.session_of.result.0 ≤ 8)
 numbered c =
-    let r : Reads c.args.text.now c.loop-stop.from c.in-Found.stop c.read-asked.result = record { same = c.read-asked.ensures } in
+    let r : Reads c.args.text.now c.loop-line.from c.in-Some.line.stop c.read-asked.result = record { same = c.read-asked.ensures } in
     rw c.session_of.ensures (reads_numbered r)
 
-pub loop-stop-init : goal.loop-stop-init
-loop-stop-init c =
+pub loop-line-init : goal.loop-line-init
+loop-line-init c =
     answering_first _ _ _ (record { sessions = search rules; items = search rules; rows = search rules; users = search rules })
     c.unpack-parts.ensures
 
@@ -27,15 +27,15 @@ overflow_sub-at c = (numbered (goal.at.overflow_sub-at c).After-session_of).0
 pub bounds-parts-at : goal.bounds-parts-at
 bounds-parts-at c = omega (arith, numbered (goal.at.bounds-parts-at c).After-session_of)
 
-pub loop-stop-preserved : goal.loop-stop-preserved
-loop-stop-preserved c =
+pub loop-line-preserved : goal.loop-line-preserved
+loop-line-preserved c =
     let left = c.answer_line-behind in
-    answering_more c.loop-stop.invariant (found (goal.at.loop-stop-preserved c).In-Found) c.read-asked.result
+    answering_more c.loop-line.invariant (found (goal.at.loop-line-preserved c).In-Some) c.read-asked.result
     (record { same = c.read-asked.ensures }) c.session_of.result.0 (rw c.session_of.ensures) _ _ refl left.new.s left.ensures.shared
     left.new.t left.ensures.part left.ensures.lines
 
 pub returns : goal.returns
 returns c =
     let none = sym c.next_call.ensures ∙ c.in_default.is in
-    answering_last c.loop-stop.invariant none c.pack.result
+    answering_last c.loop-line.invariant none c.pack.result
     (record { sessions = search rules; items = search rules; rows = search rules; users = search rules }) c.pack.ensures

@@ -3,8 +3,8 @@ use Rattle.std.proofs.Common.{◌-◌, length}
 use Rattle.simulator.proofs.Batches.{Answering}
 use Rattle.simulator.proofs.calls.calls.Given as goal
 
-abbrev pub invariant-loop-stop : goal.invariant-loop-stop
-invariant-loop-stop l = Answering l.fn.s l.text l.fn.out l.out l.state l.parts l.from l.written
+abbrev pub invariant-loop-line : goal.invariant-loop-line
+invariant-loop-line l = Answering l.fn.s l.text l.fn.out l.out l.state l.parts l.from l.written
 
-abbrev pub decreases-loop-stop : goal.decreases-loop-stop
-decreases-loop-stop l = length l.text - l.from
+abbrev pub decreases-loop-line : goal.decreases-loop-line
+decreases-loop-line l = length l.text - l.from
