@@ -9,7 +9,7 @@ use calculus::packet::{Item, Payload, Side};
 use calculus::session::Session;
 use effects::effect::{only, writes, writes_for, writes_rows};
 use items::packet::bare;
-use rows::row::{in_row, out_row};
+use rows::row::row;
 
 // est(a, b, e)
 #[tactic(auto, unfolding(model::specs::Rules::est_rule))]
@@ -38,13 +38,13 @@ pub fn grant(s: Session, a: u8, q: u8, e: u8, side: Side) -> Effect
 {
     match side {
         Side::Responder => {
-            let older = out_row(a, s.client, s.server, q, e);
-            let newer = in_row(a, s.server, s.client, q, e);
+            let older = row(true, a, s.client, s.server, q, e);
+            let newer = row(false, a, s.server, s.client, q, e);
             writes_rows(older, newer, Item::Out(a, bare(a, q, Payload::Rep(e))))
         }
         Side::Initiator => {
-            let older = out_row(a, s.server, s.client, q, e);
-            let newer = in_row(a, s.client, s.server, q, e);
+            let older = row(true, a, s.server, s.client, q, e);
+            let newer = row(false, a, s.client, s.server, q, e);
             writes_rows(older, newer, Item::Ack(a, e))
         }
     }

@@ -1,5 +1,5 @@
 // Match, the association that a row names, and the rows of a tunnel's end.
-ghost use Rattle.std.specs.Prelude.{◌≡◌};
+ghost use Rattle.std.specs.Prelude.{◌≡◌, cond};
 ghost use Rattle.model.specs.Row as spec;
 
 use calculus::packet::Packet;
@@ -42,27 +42,13 @@ pub fn admits(rows: &[Row], a: u8, q: u8) -> bool
     rows.iter().any(|r| names(false, a, q, r))
 }
 
-// A row at `a` for packets out of it, with the filter (from, to).
-pub fn out_row(a: u8, from: u8, to: u8, q: u8, e: u8) -> Row
-    ensures { result ≡ spec.out_row a from to q e }
+// A row at `a` for packets out of it or into it, with the filter (from, to), peer `q`, of establishment `e`.
+pub fn row(out: bool, a: u8, from: u8, to: u8, q: u8, e: u8) -> Row
+    ensures { result ≡ cond out (spec.out_row a from to q e) (spec.in_row a from to q e) }
 {
     Row {
         node: a,
-        out: true,
-        source: from,
-        destination: to,
-        peers: Peers { first: q },
-        establishment: e,
-    }
-}
-
-// A row at `a` for packets into it.
-pub fn in_row(a: u8, from: u8, to: u8, q: u8, e: u8) -> Row
-    ensures { result ≡ spec.in_row a from to q e }
-{
-    Row {
-        node: a,
-        out: false,
+        out,
         source: from,
         destination: to,
         peers: Peers { first: q },

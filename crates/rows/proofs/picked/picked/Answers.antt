@@ -14,17 +14,17 @@ loop-row-preserved g c =
     let same = c.held-row-items.ensures.is in
     let inside = c.loop-row-test.true in
     elim c.if-test.branch [
-      then-test w ↦ (
+      | then-test w ↦ (
         rw (w.found-is, w.push.ensures) (omega (arith, few)),
         λ p h.
-        let e = h _ _ (record { shown = _; shows = refl; says = record { met = c.test.ensures } }) in
-        w.found-is ∙ w.push.ensures ∙ picked_more p t _ same inside (sym w.if-test.true ∙ e) (c.loop-row.invariant.1 p h),
+            let e = h _ _ (record { shown = _; shows = refl; says = record { met = c.test.ensures } }) in
+            w.found-is ∙ w.push.ensures ∙ picked_more p t _ same inside (sym w.if-test.true ∙ e) (c.loop-row.invariant.1 p h),
       )
-    | else-test w ↦ (
+      | else-test w ↦ (
         rw w.found-is (omega (arith, few)),
         λ p h.
-        let e = h _ _ (record { shown = _; shows = refl; says = record { met = c.test.ensures } }) in
-        w.found-is ∙ left_out p t _ same inside (sym w.if-test.false ∙ e) (c.loop-row.invariant.1 p h),
+            let e = h _ _ (record { shown = _; shows = refl; says = record { met = c.test.ensures } }) in
+            w.found-is ∙ left_out p t _ same inside (sym w.if-test.false ∙ e) (c.loop-row.invariant.1 p h),
       )
     ]
 
