@@ -22,7 +22,7 @@ pub struct Session {
     pub last: ItemNumber,
 }
 
-// Document 01's peer of a row, or q of a header: a node, or 0 for none. With request #110 there are up to four.
+// Document 01's peer of a row, or q of a header: a node; 0 in a row that holds nothing. With request #110 there are up to four.
 #[derive(Clone, Copy, PartialEq, Eq)]
 pub struct Peers {
     pub first: u8,
