@@ -17,7 +17,7 @@ use Rattle.forms.specs.declared.list.ListRead.{ListRead}
 use Rattle.forms.specs.Text.{Form}
 use Rattle.forms.specs.Read.{list, fields, form_with}
 use Rattle.forms.specs.Request.{reading, asked}
-use Rattle.forms.specs.Held.{Filled, list_in, firsts, fields_in, bare_asked, set_of, gathered}
+use Rattle.forms.specs.Held.{Filled, list_in, firsts, bare_asked, set_of, gathered}
 use Rattle.forms.proofs.Lists.{firsts_all}
 
 -- ---- the numbers of a form

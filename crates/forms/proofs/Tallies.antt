@@ -1,7 +1,7 @@
 -- A node's credentials, as the code takes them one by one, are those of the definitions. Assumes nothing.
 use mathlib.Core.Path.{◌≡◌, refl, sym, ap, ◌∙◌}
 use mathlib.Core.Bool.{Bool, true, false, cond, ◌&&◌}
-use mathlib.Core.List.{List, [], ◌∷◌}
+use mathlib.Core.List.{List}
 use mathlib.Core.Option.{Option, none, some}
 use Prim.Native.Nat.{ℕ, suc, ◌+◌, ◌-◌, ◌≤◌, ◌<◌}
 use native.Mathlib.Omega.{arith}
@@ -13,7 +13,7 @@ use Rattle.std.specs.Prelude as std
 use Rattle.std.specs.Prelude.{Some, None, Result, Ok, Err}
 use Rattle.calculus.specs.Number.{within, is_node}
 use Rattle.calculus.specs.declared.answer.Refusal.{Refusal}
-use Rattle.calculus.specs.declared.answer.Refusal.TheVariants.{Unreadable, Range}
+use Rattle.calculus.specs.declared.answer.Refusal.TheVariants.{Unreadable}
 use Rattle.calculus.specs.declared.network.Kind.{Kind}
 use Rattle.calculus.specs.declared.request.Request.{Request}
 use Rattle.calculus.specs.declared.request.Request.TheVariants.{Node}

@@ -2,7 +2,7 @@
 use Rattle.std.specs.Prelude.{ℕ, ◌+◌, ◌≤◌, ◌≡◌, Bool, true, false, cond, ◌&&◌, List, [], ◌∷◌, Some, None, Result, Ok, Err, length, get_or, take, drop, set}
 use Rattle.std.specs.Prelude as std
 use Rattle.std.proofs.Math.Option.{Option, none, some}
-use Rattle.calculus.specs.Number.{within, is_node}
+use Rattle.calculus.specs.Number.{is_node}
 use Rattle.calculus.specs.declared.answer.Refusal.{Refusal}
 use Rattle.calculus.specs.declared.answer.Refusal.TheVariants.{Unreadable, Range}
 use Rattle.calculus.specs.declared.network.Kind.{Kind}

@@ -11,6 +11,6 @@ returns-then-list-s c =
 pub returns-else-list-count : goal.returns-else-list-count
 returns-else-list-count c =
     elim c.else-list-count.branch [
-      else-list-count-via-then-list-count+else-list-s w ↦ fields_more c.read_list.ensures c.in_ok-list.was c.args.count refl c.read_list.auto.into w.if-list-count.true w.if-list-s.false
-    | else-list-count-via-else-list-count w ↦ fields_others c.read_list.ensures c.in_ok-list.was c.args.count refl c.read_list.auto.into w.if-list-count.false
+      | else-list-count-via-then-list-count+else-list-s w ↦ fields_more c.read_list.ensures c.in_ok-list.was c.args.count refl c.read_list.auto.into w.if-list-count.true w.if-list-s.false
+      | else-list-count-via-else-list-count w ↦ fields_others c.read_list.ensures c.in_ok-list.was c.args.count refl c.read_list.auto.into w.if-list-count.false
     ]
