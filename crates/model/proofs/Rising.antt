@@ -98,9 +98,8 @@ module _ {A : Type 0} (key : A → List ℕ) where
   unfolding entries_from
   rising_somes f up k [] = tt
   rising_somes f up k (None ∷ l) = rising_somes f up (k + 1) l
-  rising_somes f up k (Some x ∷ l) =
-      (
-        entries_all (Before (f k x)) (λ i y. of_some (f i) y) (k + 1) l
+  rising_somes f up k (Some x ∷ l) = (
+    entries_all (Before (f k x)) (λ i y. of_some (f i) y) (k + 1) l
         (λ j y i w. some_all (Before (f k x)) (f j) y (λ z. up k j x z (omega arith))),
-        rising_somes f up (k + 1) l,
-      )
+    rising_somes f up (k + 1) l,
+  )

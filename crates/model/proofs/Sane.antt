@@ -30,7 +30,6 @@ use Rattle.model.specs.Rules.{rule}
 use Rattle.model.specs.State.{set_found, use_up, put_item, written, written_count, stage_after, added_rows, placed, items_after, session_after, applied}
 use Rattle.model.specs.GivenBack.{Consistent}
 use Rattle.model.specs.Requests.{Move, is_unused, unused, spent, next_number, with_item, opening, open_move, stepped, step_move, sending, send_move, closing, close_move, dropping, drop_move, step_at}
-
 use Rattle.model.proofs.Checks.{checked_either}
 use Rattle.model.specs.Lists.{tally, All}
 use Rattle.model.proofs.Lists.{all_set, all_get, all_append, all_take, all_replicate, all_map, all_those, none_tallied, tally_none}

@@ -125,13 +125,13 @@ module _ (s : State) (u : ℕ) where
   performed_whole : (m : Move) (opened : Bool) → opened_after s.opened m ≡ opened → (users : List ℕ) → users_after s.users m ≡ users
       → one_answer (performed s u m)
       ≡ reply_with
-          (record {
-            answer = answer_in m;
-            opened = opened;
-            network = cond (answers_ok (answer_in m)) s.network s.network;
-            users = users;
-            part = part_after (load s u) m;
-          })
+      (record {
+        answer = answer_in m;
+        opened = opened;
+        network = cond (answers_ok (answer_in m)) s.network s.network;
+        users = users;
+        part = part_after (load s u) m;
+      })
   unfolding performed store changed
   performed_whole (Err r) opened eo users eu = rw (← eo, ← eu) (refused_whole r s.network)
   performed_whole (Ok m) opened eo users eu = rw (← eo, ← eu, cond_same (answers_ok (Ok m.answer)) s.network)

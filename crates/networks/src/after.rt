@@ -67,7 +67,11 @@ fn is_ok(answer: Result<Answer, Refusal>) -> bool
 }
 
 // Adds to the network, once a line is answered that asks this, what an accepted node or route call gives.
-pub fn network_after(n: &mut Network, asked: Result<Request, Refusal>, answer: Result<Answer, Refusal>)
+pub fn network_after(
+    n: &mut Network,
+    asked: Result<Request, Refusal>,
+    answer: Result<Answer, Refusal>,
+)
     ensures { n.new ≡ cond (turns.answers_ok answer) (turns.network_of n.old asked) n.old }
 {
     if is_ok(answer) {
