@@ -21,11 +21,11 @@ const HELD: [&str; 12] =
     ["bool", "false", "u16", "u64", "0u64", "None", "Option<Node>", "Option<Slot>", "Part", "Row", "Session", "Slot"];
 
 /// What the language itself has that holds and copies no bytes: words, and methods.
-const PLAIN: [&str; 15] = [
-    "Clone", "Copy", "Drop", "Eq", "Err", "Error", "Fn", "None", "Ok", "Option", "PartialEq", "Result", "Self", "Some",
-    "TryFrom",
+const PLAIN: [&str; 17] = [
+    "Clone", "Copy", "Drop", "Eq", "Err", "Error", "Fn", "From", "Model", "None", "Ok", "Option", "PartialEq", "Result",
+    "Self", "Some", "TryFrom",
 ];
-const PLAIN_METHODS: [&str; 24] = [
+const PLAIN_METHODS: [&str; 25] = [
     "any",
     "contains",
     "count",
@@ -36,6 +36,7 @@ const PLAIN_METHODS: [&str; 24] = [
     "is_empty",
     "is_none",
     "is_none_or",
+    "is_ok",
     "is_some",
     "is_some_and",
     "iter",
@@ -61,6 +62,8 @@ const NAMED: &[(&str, &str)] = &[
     ("answers", ".copy_from_slice"),
     // the output with its place, and what a line is made of: no bytes
     ("answers", "*self"),
+    ("answers", "u8::from"),
+    ("answers", "u8::from"),
     ("answers", "*n"),
     ("answers", "*is_held"),
     ("answers", "&self.node.has"),
@@ -122,8 +125,6 @@ const NAMED: &[(&str, &str)] = &[
     ("inputs", "std::io::Read"),
     ("inputs", "Read"),
     ("inputs", "io::Result"),
-    ("inputs", "R"),
-    ("inputs", "&mut R"),
     ("inputs", ".read"),
     // the next hops: numbers of nodes, whose digits a report writes
     ("calculus", "[Option<u8>; 1056]"),
@@ -160,25 +161,24 @@ const NAMED: &[(&str, &str)] = &[
     ("tables", "[0; 2048]"),
     ("tables", "[session; 8]"),
     ("tables", "[row; 256]"),
-    ("tables", "[load_at(s, 0); 8]"),
-    // a session's part of the items or of the rows
-    ("tables", "T"),
-    ("tables", "[T]"),
-    ("tables", "[T]"),
-    ("tables", "[T; N]"),
-    ("tables", "[T; N]"),
-    ("tables", "[table[N * at]; N]"),
-    ("tables", ".copy_from_slice"),
-    ("tables", ".copy_from_slice"),
-    ("lookups", "[slot; 16]"),
     ("lookups", "[row; 32]"),
-    ("simulator", "parts[at] ="),
-    ("simulator", "&mut network"),
-    ("simulator", "&mut network"),
+    // the state, its tables and a session's part, which a line changes in place
+    ("simulator", "&mut s.opened"),
+    ("simulator", "&mut s.users"),
+    ("simulator", "&mut s.network"),
+    ("simulator", "&mut parts[at]"),
+    ("simulator", "&mut part"),
     ("simulator", "&mut state"),
-    ("simulator", "&mut users"),
-    ("simulator", "&mut users"),
     ("simulator", "&mut state"),
+    ("simulator", "&mut state"),
+    ("sessions", "*t"),
+    ("sessions", "*blank"),
+    ("turns", "*opened"),
+    ("turns", "*opened"),
+    ("turns", "*opened"),
+    ("turns", "*opened"),
+    // a type that is seen as the number that it holds
+    ("calculus", "std::marker::Model"),
 ];
 
 /// A place in the code, and what was found there.
