@@ -10,13 +10,13 @@ use calculus::session::{Peers, Row};
 use effects::effect::{lost, only, writes, writes_for};
 use items::packet::under;
 use lookups::users::stands;
-use rows::row::{admits, newest};
+use rows::row::{admits, named, newest};
 
-// What the header is from; none where there is no header.
+// The peers that the header is from; none where there is no header.
 fn stripped(h: Option<Header>) -> Option<Peers>
     ensures { result ≡ spec.stripped h }
 {
-    h.map(|x| Peers { first: x.from })
+    h.and_then(|x| named(x.from))
 }
 
 // Whether the packet is bare, or its header's association stands and this session has an in row of it.

@@ -1,6 +1,7 @@
 -- Every rule leads from one place of a set-up to another, a step nearer to the end. Assumes nothing.
 use mathlib.Core.Path.{◌≡◌, refl, sym, ap, subst, ◌∙◌}
 use mathlib.Core.Bool.{true, false, not, ◌||◌}
+use mathlib.Core.List.{List}
 use Prim.Native.Nat.{ℕ, ◌+◌, ◌-◌, ◌*◌, ◌≤◌, ◌<◌}
 use native.Mathlib.Omega.{arith}
 use lib.Dec.{eqb}
@@ -20,11 +21,12 @@ use Rattle.calculus.specs.declared.packet.Packet.{Packet}
 use Rattle.calculus.specs.declared.packet.Item.{Item}
 use Rattle.calculus.specs.declared.packet.Item.TheVariants.{Wire, Out, Est}
 use Rattle.calculus.specs.declared.session.Peers.{Peers}
+use Rattle.calculus.specs.declared.session.Row.{Row}
 use Rattle.calculus.specs.declared.state.Part.{Part}
 use Rattle.model.specs.Lists.{All}
 use Rattle.model.specs.Network.{is_gateway, next_hop, has_all_needed}
 use Rattle.model.specs.Packet.{hop_limit, bare, under, target, no_hops_left, shorter, fewer}
-use Rattle.model.specs.Row.{held, newest, admits, are_nodes}
+use Rattle.model.specs.Row.{held, named, newest, admits, are_nodes}
 use Rattle.model.specs.Rules.{lost, writes, is_exhausted, begin, discovers, unprotected, onward, wire_rule, sent, header_to, created, out_rule, same_peers, admitted, matched, received, up_rule, est_rule, auth_rule, grant_rule, acknowledged, ack_rule, rule}
 use Rattle.model.specs.State.{begun_after, added_rows}
 use Rattle.model.specs.Termination.{trip_steps, ceiling, is_active}
@@ -46,6 +48,15 @@ pub record Next (net : Network) (c d b n : ℕ) (f : Effect) : Type 0 where
 same_some : (x : Option Peers) (q : ℕ) → same_peers x (Some (record { first = q })) ≡ true → x ≡ Some (record { first = q })
 same_some None q e = never e
 same_some (Some x) q e = ap (λ (n : ℕ). Some (record { first = n })) (eqb-true x.first q e)
+
+same_named : (x : Option Peers) (q : ℕ) → 1 ≤ q → same_peers x (named q) ≡ true → x ≡ Some (record { first = q })
+same_named x q h e =
+    let some : named q ≡ Some (record { first = q }) = rw (ne_eqb q 0 (λ z. absurd (omega (arith, z, h)))) refl in
+    same_some x q (subst (λ y. same_peers x y ≡ true) some e)
+
+-- what an admitted header is from is a node
+from_node : (rows : List Row) (a : ℕ) (h : Header) → admitted are_nodes rows a (Some h) ≡ true → 1 ≤ h.from
+from_node rows a h e = let n = node_bounds a h.from (both (are_nodes a h.from) (admits rows a h.from) e).0 in n.2
 
 -- what stands is told by the nodes, as `local` of Local has it
 module _ (net : Network) (t : Part) (n : ℕ) where
@@ -237,10 +248,11 @@ module _ (net : Network) (t : Part) (n : ℕ) where
         let few : n + 1 ≤ ceiling = omega arith in
         let p = under (bare_with d c Done m) (Some h) in
         let match = matched (held t) y p in
-        either After (not (admitted are_nodes (held t) y p.header)) (λ e. loses few)
+        let enters = admitted are_nodes (held t) y p.header in
+        either After (not enters) (λ e. loses few)
         (λ e. either After (not match) (λ g. loses few)
         (λ g. either After (not (eqb c y))
-        (λ f. done_through m h.from k y o w l (same_some _ h.from (not-false match g))
+        (λ f. done_through m h.from k y o w l (same_named _ h.from (from_node (held t) y h (not-false enters e)) (not-false match g))
         (eqb-false c y (not-true (eqb c y) f)))
         (λ f. record { counted = few; written = tt; added = tt })))
     advances i (done_bare v l m) =

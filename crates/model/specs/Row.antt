@@ -1,6 +1,6 @@
 -- What a row means: the establishment that added it, the packets that it matches, the association that it names, the users that it
 -- stands for. Assumes nothing.
-use Rattle.std.specs.Prelude.{ℕ, ◌+◌, ◌*◌, ◌-◌, ◌/◌, ◌%◌, Bool, true, false, cond, not, ◌&&◌, List, leb, ltb, eqb, reverse, get_or, set, take, Option, option_map}
+use Rattle.std.specs.Prelude.{ℕ, ◌+◌, ◌*◌, ◌-◌, ◌/◌, ◌%◌, Bool, true, false, cond, not, ◌&&◌, List, leb, ltb, eqb, reverse, get_or, set, take, Option, Some, None, option_and_then}
 use Rattle.std.specs.List.{find, list_any}
 use Rattle.calculus.specs.Number.{is_node, spi}
 use Rattle.calculus.specs.declared.number.Spi.{Spi}
@@ -48,9 +48,13 @@ fits out a p r =
     && eqb r.destination p.destination
     && not (concerns p.payload r.establishment)
 
+-- the peers that a row's peer, or a header's q, names: none by 0, which is no node
+abbrev pub named : ℕ → Option Peers
+named q = cond (eqb q 0) None (Some (record { first = q }))
+
 -- match: the peers of the newest row that fits, the rows being in order of age; none where no row fits
 abbrev pub newest : List Row → Bool → ℕ → Packet → Option Peers
-newest rows out a p = option_map (λ r. r.peers) (find (fits out a p) (reverse rows))
+newest rows out a p = option_and_then (λ r. named r.peers.first) (find (fits out a p) (reverse rows))
 
 -- ---- the association that a row names
 

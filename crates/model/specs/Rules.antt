@@ -1,5 +1,5 @@
 -- The seven rules of a step, each a function of what it reads that gives an effect. Assumes nothing.
-use Rattle.std.specs.Prelude.{ℕ, ◌+◌, Bool, true, false, cond, not, ◌&&◌, ◌||◌, List, leb, eqb, Option, Some, None, is_none, option_map}
+use Rattle.std.specs.Prelude.{ℕ, ◌+◌, Bool, true, false, cond, not, ◌&&◌, ◌||◌, List, leb, eqb, Option, Some, None, is_none, option_map, option_and_then}
 use Rattle.calculus.specs.declared.answer.Loss.{Loss}
 use Rattle.calculus.specs.declared.answer.Loss.TheVariants.{Unprotected, HopLimit, NoRoute, NoTunnel, WrongTunnel, Exhausted}
 use Rattle.calculus.specs.declared.effect.Outcome.{Outcome}
@@ -24,7 +24,7 @@ use Rattle.calculus.specs.declared.state.Part.{Part}
 use Rattle.calculus.specs.declared.network.Network.{Network}
 use Rattle.model.specs.Network.{is_gateway, next_hop, has_all_needed}
 use Rattle.model.specs.Packet.{hop_limit, bare, under, target, no_hops_left, fewer, is_data_or_done}
-use Rattle.model.specs.Row.{held, in_row, out_row, newest, admits, spi_of}
+use Rattle.model.specs.Row.{held, in_row, out_row, named, newest, admits, spi_of}
 
 -- ---- effects
 
@@ -125,7 +125,7 @@ out_rule rows a p =
 
 -- the q of "Header from q"; of a bare packet none
 abbrev pub stripped : Option Header → Option Peers
-stripped h = option_map (λ x. record { first = x.from }) h
+stripped h = option_and_then (λ x. named x.from) h
 
 -- a packet is bare, or "In(a, q) stands", which `standing a q` tells, "and an in row of this session at a has peer q"
 abbrev pub admitted : (ℕ → ℕ → Bool) → List Row → ℕ → Option Header → Bool

@@ -1,5 +1,6 @@
 // Match, the association that a row names, and the rows of a tunnel's end.
-ghost use Rattle.std.specs.Prelude.{◌≡◌, cond};
+ghost use Rattle.std.specs.Prelude.{◌≡◌, cond, reverse};
+ghost use Rattle.std.specs.List.{find};
 ghost use Rattle.model.specs.Row as spec;
 
 use calculus::packet::Packet;
@@ -17,14 +18,28 @@ fn fits(out: bool, a: u8, p: Packet, r: &Row) -> bool
         && !concerns(p.payload, r.establishment)
 }
 
-// Match: the peers of the newest of the rows that fits, which stand in order of age; none where no row does.
+// The peers that `q` names, a row's peer or what a header is from: none by 0, which is no node.
+pub fn named(q: u8) -> Option<Peers>
+    ensures { result ≡ spec.named q }
+{
+    if q == 0 {
+        return None;
+    }
+    Some(Peers { first: q })
+}
+
+// The newest of the rows that fits, which stand in order of age.
+fn newest_fit(rows: &[Row], out: bool, a: u8, p: Packet) -> Option<Row>
+    ensures { result ≡ find (spec.fits out a p) (reverse rows.now) }
+{
+    rows.iter().rev().copied().find(|r| fits(out, a, p, r))
+}
+
+// Match: the peers of the newest of the rows that fits; none where no row does.
 pub fn newest(rows: &[Row], out: bool, a: u8, p: Packet) -> Option<Peers>
     ensures { result ≡ spec.newest rows.now out a p }
 {
-    rows.iter()
-        .rev()
-        .find(|r| fits(out, a, p, r))
-        .map(|r| r.peers)
+    newest_fit(rows, out, a, p).and_then(|r| named(r.peers.first))
 }
 
 // Whether the row names In(a, q), or Out(a, q).
