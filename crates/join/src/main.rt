@@ -33,14 +33,6 @@ fn main(rt: HostRuntime) -> std::io::Result<()> {
     let mut out = [0u8; 65536];
     let first = read_file(&rt, 1, &mut a);
     let second = read_file(&rt, 2, &mut b);
-    let n = first.unwrap_or(0);
-    let m = second.unwrap_or(0);
-    let reply = join(
-        first.is_some(),
-        &a[..n],
-        second.is_some(),
-        &b[..m],
-        &mut out,
-    );
+    let reply = join(first.map(|n| &a[..n]), second.map(|n| &b[..n]), &mut out);
     rt.write_all(&out[..reply.written])
 }

@@ -1,14 +1,15 @@
 -- A file that was read, and the lines of two networks' texts, place by place. Private functions of `joins` cite it. Assumes nothing.
-use Rattle.std.specs.Prelude.{ℕ, ◌-◌, ◌≡◌, Bool, true, cond, List, [], ltb, get_or, take, drop, None, is_some}
+use Rattle.std.specs.Prelude.{ℕ, ◌-◌, ◌≡◌, Bool, false, cond, List, [], ltb, get_or, take, drop, Option, Some, None, is_some}
+use Rattle.std.proofs.Math.Option.{some}
 use Rattle.calculus.specs.declared.network.Network.{Network}
 use Rattle.lines.specs.Behind.{behind}
-use Rattle.model.specs.Join.{File, is_sorted, file_network, is_there}
-use Rattle.joins.specs.declared.Contents.{Contents}
+use Rattle.model.specs.Join.{File, is_sorted, is_there}
+use Rattle.joins.specs.declared.text.NetworkText.{NetworkText}
 
--- c tells whether f is sorted and, where it is, its network
-pub record Finds (f : File) (c : Contents) : Type 0 where
-  pub sorted : c.sorted ≡ is_sorted f
-  pub network : is_sorted f ≡ true → c.network ≡ file_network f
+-- what is found in f: its text, if it is sorted
+abbrev pub Finds : File → Option NetworkText → Type 0
+Finds f None = is_sorted f ≡ false
+Finds f (Some x) = f ≡ some x.text.now
 
 -- n has a line at place k: that of node k + 1 or, behind the 32 nodes, of the route at place k − 32
 abbrev pub has_entry : Network → ℕ → Bool

@@ -3,18 +3,18 @@
 
 mod compare;
 mod merge;
+mod text;
 
 ghost use Rattle.std.specs.Prelude.{◌≤◌, length};
 ghost use Rattle.model.specs.Join as spec;
-ghost use Rattle.model.specs.Union.{IsTextOf};
 ghost use Rattle.joins.specs.Join.{file_of, JoinReplies};
 ghost use Rattle.joins.specs.Merge.{Finds};
 
 use crate::compare::same_text;
 use crate::merge::{clash, merge};
+use crate::text::NetworkText;
 use answers::write::write;
 use calculus::answer::{Answer, Refusal};
-use calculus::network::Network;
 use simulator::call::call;
 use simulator::calls::calls;
 use tables::fresh::fresh;
@@ -26,35 +26,23 @@ pub struct JoinReply {
     pub status: Result<(), Refusal>,
 }
 
-// Whether a file is as `(net)` writes it, and the network that it then is the text of.
-#[derive(Clone, Copy)]
-pub struct Contents {
-    pub sorted: bool,
-    pub network: Network,
-}
-
-// Reads a file on a fresh state and asks that for its network: a file as `(net)` writes it gives back its own bytes. The scratch has
-// room for the answers, `(ok)` to each of at most 1,088 lines, and for a call behind them. Where more is answered the calls end early: then the
-// file is no network's text, and not that of what was read either.
-fn find_network(is_read: bool, text: &[u8]) -> Contents
-    ensures { Finds (file_of is_read text.now) result }
+// Reads a file on a fresh state and asks that for its network: a file as `(net)` writes it gives back its own bytes, and no other is a
+// network's text. The scratch has room for the answers, `(ok)` to each of at most 1,088 lines, and for a call behind them. Where more is
+// answered the calls end early: then the file is no network's text, and not that of what was read either.
+fn find_network<'a>(file: Option<&'a [u8]>) -> Option<NetworkText<'a>>
+    ensures { Finds (file_of file.entry) result }
 {
-    if is_read {
-        let mut scratch = [0u8; 70976];
-        let given = calls(fresh(), text, &mut scratch);
-        let state = given.state;
-        let network = state.network;
-        let reply = call(state, b"(net)", &mut scratch);
-        let written = reply.written;
-        let sorted = same_text(text, &scratch[0..written]);
-        return Contents { sorted, network };
-    }
-    let state = fresh();
+    let text = file?;
+    let mut scratch = [0u8; 70976];
+    let given = calls(fresh(), text, &mut scratch);
+    let state = given.state;
     let network = state.network;
-    Contents {
-        sorted: false,
-        network,
+    let reply = call(state, b"(net)", &mut scratch);
+    let written = reply.written;
+    if same_text(text, &scratch[0..written]) {
+        return Some(NetworkText { text, network });
     }
+    None
 }
 
 // Writes the refusal's line.
@@ -71,37 +59,25 @@ fn refuse(out: &mut [u8], refusal: Refusal) -> JoinReply
 }
 
 // Joins the texts of two networks.
-fn join_networks<'a>(
-    a: &'a [u8],
-    b: &'a [u8],
-    n: &Network,
-    m: &Network,
-    out: &mut [u8],
-) -> JoinReply
-    requires { (IsTextOf a.now n.now × IsTextOf b.now m.now) × (65536 ≤ length out.old) }
-    ensures { JoinReplies out.old (spec.join_networks n.now m.now) out.new result }
+fn join_networks(a: &NetworkText<'_>, b: &NetworkText<'_>, out: &mut [u8]) -> JoinReply
+    requires { 65536 ≤ length out.old }
+    ensures { JoinReplies out.old (spec.join_networks a.now.network b.now.network) out.new result }
 {
-    if clash(a, b, n, m) {
+    if clash(a, b) {
         return refuse(out, Refusal::Clash);
     }
-    let written = merge(a, b, n, m, out);
+    let written = merge(a, b, out);
     JoinReply {
         written,
         status: Ok(()),
     }
 }
 
-// Joins two files, each read or not, into the front of `out`; the other bytes of `out` stay. Refusal 0 where `out` has fewer than
-// 65,536 bytes, then 15, then 14.
+// Joins two files, each of which may be missing, into the front of `out`; the other bytes of `out` stay. Refusal 0 where `out` has
+// fewer than 65,536 bytes, then 15, then 14.
 #[tactic(auto, unfolding(model::specs::Join::join))]
-pub fn join<'a>(
-    is_a_read: bool,
-    a: &'a [u8],
-    is_b_read: bool,
-    b: &'a [u8],
-    out: &mut [u8],
-) -> JoinReply
-    ensures { JoinReplies out.old (spec.join (file_of is_a_read a.now) (file_of is_b_read b.now) (length out.old)) out.new result }
+pub fn join<'a>(a: Option<&'a [u8]>, b: Option<&'a [u8]>, out: &mut [u8]) -> JoinReply
+    ensures { JoinReplies out.old (spec.join (file_of a.entry) (file_of b.entry) (length out.old)) out.new result }
 {
     if out.len() < 65536 {
         return JoinReply {
@@ -109,13 +85,11 @@ pub fn join<'a>(
             status: Err(Refusal::Short),
         };
     }
-    let first = find_network(is_a_read, a);
-    if first.sorted {
-        let second = find_network(is_b_read, b);
-        if second.sorted {
-            return join_networks(a, b, &first.network, &second.network, out);
-        }
+    let Some(first) = find_network(a) else {
         return refuse(out, Refusal::Unsorted);
-    }
-    refuse(out, Refusal::Unsorted)
+    };
+    let Some(second) = find_network(b) else {
+        return refuse(out, Refusal::Unsorted);
+    };
+    join_networks(&first, &second, out)
 }

@@ -3,11 +3,11 @@
 ghost use Rattle.std.specs.Prelude.{◌≡◌, ◌≤◌, ◌<◌, length};
 ghost use Rattle.model.specs.NetworkText.{network_text};
 ghost use Rattle.model.specs.Join as join;
-ghost use Rattle.model.specs.Union.{IsTextOf};
 ghost use Rattle.joins.specs.Merge as spec;
 ghost use Rattle.joins.specs.Front.{Front};
 
 use crate::compare::differ;
+use crate::text::NetworkText;
 use calculus::network::Network;
 use forms::line::next_line;
 
@@ -49,18 +49,17 @@ fn next_part<'a>(a: &'a [u8], b: &'a [u8], i: usize, j: usize, in_a: bool, in_b:
 }
 
 // Whether the two networks clash: at some place both have a line, and not the same one.
-pub fn clash(a: &[u8], b: &[u8], n: &Network, m: &Network) -> bool
-    requires { IsTextOf a.now n.now × IsTextOf b.now m.now }
-    ensures { result ≡ join.clash n.now m.now }
+pub fn clash(a: &NetworkText<'_>, b: &NetworkText<'_>) -> bool
+    ensures { result ≡ join.clash a.now.network b.now.network }
 {
     let mut i: usize = 0;
     let mut j: usize = 0;
     let mut k: usize = 0;
     while k < 1088 {
-        let in_a = has_entry(n, k);
-        let in_b = has_entry(m, k);
-        let x = line_part(a, i, in_a);
-        let y = line_part(b, j, in_b);
+        let in_a = has_entry(&a.network, k);
+        let in_b = has_entry(&b.network, k);
+        let x = line_part(a.text, i, in_a);
+        let y = line_part(b.text, j, in_b);
         if differ(x, y) {
             return true;
         }
@@ -72,23 +71,23 @@ pub fn clash(a: &[u8], b: &[u8], n: &Network, m: &Network) -> bool
 }
 
 // The lines of both, in order, those that both have once; answers how many bytes they are.
-pub fn merge<'a>(a: &'a [u8], b: &'a [u8], n: &Network, m: &Network, out: &mut [u8]) -> usize
-    requires { (IsTextOf a.now n.now × IsTextOf b.now m.now) × (65536 ≤ length out.old) }
-    ensures { Front out.old (network_text (join.union n.now m.now)) out.new result }
+pub fn merge(a: &NetworkText<'_>, b: &NetworkText<'_>, out: &mut [u8]) -> usize
+    requires { 65536 ≤ length out.old }
+    ensures { Front out.old (network_text (join.union a.now.network b.now.network)) out.new result }
 {
     let mut i: usize = 0;
     let mut j: usize = 0;
     let mut end: usize = 0;
     let mut k: usize = 0;
     while k < 1088 {
-        let in_a = has_entry(n, k);
-        let in_b = has_entry(m, k);
-        let line = next_part(a, b, i, j, in_a, in_b);
+        let in_a = has_entry(&a.network, k);
+        let in_b = has_entry(&b.network, k);
+        let line = next_part(a.text, b.text, i, j, in_a, in_b);
         let size = line.len();
         out[end..end + size].copy_from_slice(line);
         end += size;
-        let of_a = line_part(a, i, in_a);
-        let of_b = line_part(b, j, in_b);
+        let of_a = line_part(a.text, i, in_a);
+        let of_b = line_part(b.text, j, in_b);
         i += of_a.len();
         j += of_b.len();
         k += 1;

@@ -2,27 +2,28 @@
 use Rattle.std.proofs.Common.{rules}
 use Rattle.calculus.proofs.Tests.{join}
 use Rattle.joins.proofs.Clashes.{searching_none, searching_all, searching_more, searching_stop}
+use Rattle.joins.proofs.JoinCases.{text_of}
 use Rattle.joins.proofs.LinesRead.{lines_none, line_read}
 use Rattle.joins.proofs.merge.clash.Goals as goal
 
 pub loop-k-init : goal.loop-k-init
-loop-k-init c = searching_none c.requires
+loop-k-init c = searching_none (text_of c.args.a.now, text_of c.args.b.now)
 
 pub returns-then-differ : goal.returns-then-differ
 returns-then-differ c =
     let s = c.loop-k.invariant in
     searching_stop s
-    (line_read c.requires.0 s.first (search rules) c.has_entry-in_a.ensures c.line_part-x.ensures)
-    (line_read c.requires.1 s.second (search rules) c.has_entry-in_b.ensures c.line_part-y.ensures)
+    (line_read (text_of c.args.a.now) s.first (search rules) c.has_entry-in_a.ensures c.line_part-x.ensures)
+    (line_read (text_of c.args.b.now) s.second (search rules) c.has_entry-in_b.ensures c.line_part-y.ensures)
     (join c.differ.ensures c.if-differ.true)
 
 pub loop-k-preserved : goal.loop-k-preserved
 loop-k-preserved c =
     let s = c.loop-k.invariant in
     searching_more s
-    (line_read c.requires.0 s.first (search rules) c.has_entry-in_a.ensures c.line_part-x.ensures)
-    (line_read c.requires.1 s.second (search rules) c.has_entry-in_b.ensures c.line_part-y.ensures)
+    (line_read (text_of c.args.a.now) s.first (search rules) c.has_entry-in_a.ensures c.line_part-x.ensures)
+    (line_read (text_of c.args.b.now) s.second (search rules) c.has_entry-in_b.ensures c.line_part-y.ensures)
     (join c.differ.ensures c.if-differ.false)
 
 pub returns : goal.returns
-returns c = searching_all c.loop-k.invariant (lines_none c.requires.0 c.loop-k-test.false)
+returns c = searching_all c.loop-k.invariant (lines_none (text_of c.args.a.now) c.loop-k-test.false)
