@@ -54,8 +54,7 @@ pub fn clash(a: &NetworkText<'_>, b: &NetworkText<'_>) -> bool
 {
     let mut i: usize = 0;
     let mut j: usize = 0;
-    let mut k: usize = 0;
-    while k < 1088 {
+    for k in 0..1088 {
         let in_a = has_entry(&a.network, k);
         let in_b = has_entry(&b.network, k);
         let x = line_part(a.text, i, in_a);
@@ -65,7 +64,6 @@ pub fn clash(a: &NetworkText<'_>, b: &NetworkText<'_>) -> bool
         }
         i += x.len();
         j += y.len();
-        k += 1;
     }
     false
 }
@@ -78,8 +76,7 @@ pub fn merge(a: &NetworkText<'_>, b: &NetworkText<'_>, out: &mut [u8]) -> usize
     let mut i: usize = 0;
     let mut j: usize = 0;
     let mut end: usize = 0;
-    let mut k: usize = 0;
-    while k < 1088 {
+    for k in 0..1088 {
         let in_a = has_entry(&a.network, k);
         let in_b = has_entry(&b.network, k);
         let line = next_part(a.text, b.text, i, j, in_a, in_b);
@@ -90,7 +87,6 @@ pub fn merge(a: &NetworkText<'_>, b: &NetworkText<'_>, out: &mut [u8]) -> usize
         let of_b = line_part(b.text, j, in_b);
         i += of_a.len();
         j += of_b.len();
-        k += 1;
     }
     end
 }
