@@ -51,9 +51,6 @@ pub record Left (s : Output) (text : List ℕ) (t : Output) (rest : List ℕ) : 
   pub place : t.at + length rest ≡ s.at + length text
   pub size : length t.out.now ≡ length s.out.now
 
-pub left_all : {s : Output} {text : List ℕ} → Left s text s text
-left_all = record { all = λ u e. e; place = refl; size = refl }
-
 pub left_part : {s t u : Output} {text bs : List ℕ} (cs : List ℕ) → Adds t bs u → Left s text t (bs ++ cs) → Left s text u cs
 left_part {bs = bs} cs e h = record {
   all = λ v f. h.all v (adds_append e f);

@@ -10,15 +10,7 @@ use Rattle.answers.specs.Write.{has_room, Writes}
 use Rattle.answers.specs.declared.put.Output.{Output}
 use Rattle.answers.specs.Put.{Put, Adds, Written}
 
-pub writes_none : {room : ℕ} {l text : List ℕ} {at : ℕ} → has_room room (length l) at ≡ false → Writes room l at text l at
-writes_none e = record { place = rw e; left = rw e; few = omega arith }
-
 module _ {room : ℕ} {l text m : List ℕ} {at p : ℕ} (h : at + room ≤ length l) where
-  pub writes_put : Put l at text m p → length text ≤ room → Writes room l at text m p
-  writes_put x few =
-      let e = le-leb (at + room) (length l) h in
-      record { place = rw e x.place; left = rw e x.bytes; few = omega (arith, x.place) }
-
   -- what a caller that knows of the room knows
   pub put_writes : Writes room l at text m p → Put l at text m p × (length text ≤ room)
   put_writes x =

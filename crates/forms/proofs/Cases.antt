@@ -6,7 +6,6 @@ use lib.ListN.{replicate}
 use mathlib.Core.Bool.{false}
 use mathlib.Core.Option.{none, some}
 use Rattle.std.specs.Prelude.{Some, None, Ok, Err}
-use Rattle.calculus.specs.declared.answer.Answer.TheVariants as answer
 use Rattle.calculus.specs.declared.answer.Answer.TheVariants.{Made, MadeByDefault, MadeTwo, Lost, Delivered}
 use Rattle.calculus.specs.declared.answer.Answer.{Answer}
 use Rattle.calculus.specs.declared.answer.Loss.TheVariants.{HopLimit}

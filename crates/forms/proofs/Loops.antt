@@ -14,10 +14,6 @@ use Rattle.calculus.proofs.Tests.{within_bounds}
 use Rattle.std.specs.Prelude.{Some, None}
 use Rattle.forms.specs.Read.{starts, is_digit, scan, number}
 
--- a list from place i on, by its first element
-pub drop_next : (l : List ℕ) (i : ℕ) → i < length l → drop i l ≡ get_or l i 0 ∷ drop (i + 1) l
-drop_next l i h = rw (add-one, drop-cons l i 0)
-
 -- ---- one byte at a place
 
 pub byte_here : (s : List ℕ) (at b : ℕ) → at < length s → eqb b (get_or s at 0) ≡ starts (b ∷ []) (drop at s)
@@ -58,10 +54,6 @@ module _ {l : List ℕ} {first v i : ℕ} (m : Scanned l first v i) where
   pub scanned_all : length l ≤ i → Some (v, i) ≡ scan 10 first 1 (drop 1 l)
   unfolding scan
   scanned_all h = sym (m.same ∙ rw (drop_of_length-le l h))
-
-  -- so one more digit fits a u64
-  pub scanned_small : i < 19 → v < 10 ^ 18
-  scanned_small g = omega (arith, pow-le-pow_right {n = 10} (omega arith) {i = i} {j = 18} (omega arith))
 
 -- ---- the first digit
 

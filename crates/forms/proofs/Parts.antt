@@ -79,11 +79,6 @@ pub record Filling (l before into : List ℕ) (at count : ℕ) : Type 0 where
   pub size : length into ≡ length before
   pub same : list 10 (length before) 0 l ≡ foldr push (list 10 (length before - count) at (drop at l)) (take count into)
 
-pub filling_none : (l before : List ℕ) → Filling l before before 0 0
-filling_none l before =
-    let d : length before - 0 ≡ length before = omega arith in
-    record { few = omega arith; size = refl; same = rw d }
-
 module _ {l before into : List ℕ} {at count : ℕ} (m : Filling l before into at count) where
   -- one more place: what is left, by its first part
   filling_part : (p : Option Part) → count < length into → part_at at (drop at l) ≡ p

@@ -13,8 +13,8 @@ use calculus::number::{
 };
 use calculus::request::{Request, Sender};
 
-#[tactic(auto, using(crate::proofs::Held::fields_broken))]
 // The numbers that `s` is, to its end, where there are `count`: the first so many of the three.
+#[tactic(auto, using(crate::proofs::Held::fields_broken))]
 pub fn read_fields(s: &[u8], count: usize) -> Option<[u64; 3]>
     ensures { fields_in count result ≡ spec.fields 10 count s.now }
 {

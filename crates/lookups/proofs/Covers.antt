@@ -22,9 +22,6 @@ unfolding covers
 one has needs i h k = rw (drop-cons has i false h, drop-cons needs i false k)
 
 module _ {has needs : List Bool} where
-  pub covering_none : Covering has needs 0
-  covering_none = record { same = refl }
-
   pub covering_more : {i : ℕ} → Covering has needs i → i < length has → i < length needs → met has needs i ≡ true → Covering has needs (i + 1)
   covering_more {i} w h k e = record { same = w.same ∙ one has needs i h k ∙ rw (e, add-one) }
 

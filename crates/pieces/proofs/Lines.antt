@@ -18,27 +18,6 @@ use Rattle.model.proofs.Newlines.{line_length_most}
 use Rattle.model.proofs.Unfinished.{take_unfinished}
 
 module _ (l : List ℕ) where
-  pub line_found : (x : Line) → next_line l 0 ≡ Some x → ltb x.stop x.next ≡ has_line l
-  line_found x q = go (way (ltb 0 (length l))) (way (ltb (line_length l) (length l)))
-    where
-      go : Way (ltb 0 (length l)) → Way (ltb (line_length l) (length l)) → ltb x.stop x.next ≡ has_line l
-      go (isnt e) w = let z : None ≡ Some x = rw e at q in clash cc
-      go (is e) (is f) =
-          let z : Some (record { stop = line_length l; next = line_length l + 1 }) ≡ Some x = rw (e, zero-add, f) at q in
-          let a : record { stop = line_length l; next = line_length l + 1 } ≡ x = cc in
-          rw (f, ← a, lt-ltb (line_length l) (line_length l + 1) (omega arith))
-      go (is e) (isnt f) =
-          let z : Some (record { stop = line_length l; next = line_length l }) ≡ Some x = rw (e, zero-add, f) at q in
-          let a : record { stop = line_length l; next = line_length l } ≡ x = cc in
-          rw (f, ← a, le-ltb (line_length l) (line_length l) (omega arith))
-
-  pub line_none : next_line l 0 ≡ None → has_line l ≡ false
-  line_none q = go (way (ltb 0 (length l)))
-    where
-      go : Way (ltb 0 (length l)) → has_line l ≡ false
-      go (isnt e) = le-ltb (line_length l) (length l) (omega (arith, ltb-false 0 (length l) e))
-      go (is e) = let z : line_to l (0 + line_length l) ≡ None = rw e at q in clash cc
-
   -- where no line is left, no newline is
   pub no_newline : has_line l ≡ false → NoNewline l
   no_newline e = omega (arith, line_length_most l, ltb-false (line_length l) (length l) e)

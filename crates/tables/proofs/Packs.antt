@@ -17,25 +17,6 @@ pub record Unpacked (s : State) (parts : List Part) (i : ℕ) : Type 0 where
   pub many : length parts ≡ 8
   pub each : (u : ℕ) → u < i → (t : Part) → get_or parts u t ≡ load s (u + 1)
 
-module _ {s : State} where
-  pub unpacked_first : (t : Part) → t ≡ load s 1 → Unpacked s (replicate 8 t) 1
-  unpacked_first t e =
-      record { many = omega arith; each = λ u h z. let f : u ≡ 0 = omega arith in rw f e }
-
-  pub unpacked_more : {parts : List Part} {i : ℕ} → Unpacked s parts i → i < 8 → (t : Part) → t ≡ load s (i + 1)
-      → Unpacked s (set parts i t) (i + 1)
-  unpacked_more {parts} {i} w k t e =
-      record { many = simp length-set w.many; each = λ u h z. go u z (dec_lt u i) (omega arith) }
-    where
-      go : (u : ℕ) (z : Part) → Dec (u < i) → u ≤ i → get_or (set parts i t) u z ≡ load s (u + 1)
-      go u z (yes p) h = get_or-set_other parts i u t z (λ q. omega arith) ∙ w.each u p z
-      go u z (no p) h =
-          let f : u ≡ i = omega arith in
-          rw f (get_or-set_same parts i t z (omega (arith, w.many)) ∙ e)
-
-pub unpacked_all : {s : State} {parts : List Part} {i : ℕ} → Unpacked s parts i → 8 ≤ i → Parts s parts
-unpacked_all w h = record { many = w.many; each = λ u k z. w.each u (omega arith) z }
-
 -- r has the tables that all sessions share as in s
 pub record Shared (s r : State) : Type 0 where
   pub opened : r.opened ≡ s.opened
@@ -50,13 +31,6 @@ store_shared h u t = record { opened = h.opened; network = h.network; users = h.
 pub record Packed (s : State) (parts : List Part) (r : State) (i : ℕ) : Type 0 where
   pub own : Unpacked r parts i
   pub shared : Shared s r
-
-pub packed_none : {s : State} {parts : List Part} → length parts ≡ 8 → Packed s parts s 0
-packed_none k =
-    record {
-      own = record { many = k; each = λ u q z. absurd (omega arith) };
-      shared = record { opened = refl; network = refl; users = refl };
-    }
 
 module _ {s : State} {parts : List Part} {r : State} {i : ℕ} (w : Packed s parts r i) where
   pub packed_more : i < 8 → Sized r → (z : Part) → Whole (get_or parts i z) → Packed s parts (store r (i + 1) (get_or parts i z)) (i + 1)
@@ -75,7 +49,3 @@ module _ {s : State} {parts : List Part} {r : State} {i : ℕ} (w : Packed s par
           rw f
           (rw set-get_or at (get_or-set_same parts i (get_or parts i z) t (omega (arith, w.own.many)))
           ∙ sym (load_stored r sized (get_or parts i z) whole (i + 1) (omega arith)))
-
-  pub packed_all : 8 ≤ i → Held r s.opened s.network parts s.users
-  packed_all h =
-      record { opens = w.shared.opened; network = w.shared.network; own = unpacked_all w.own h; shared = w.shared.users }
