@@ -1,12 +1,11 @@
 -- Laws of texts written where there is room for them. Assumes nothing.
 use mathlib.Core.Path.{◌≡◌}
-use mathlib.Core.Bool.{false}
 use mathlib.Core.List.{List}
 use Prim.Native.Nat.{ℕ, ◌+◌, ◌≤◌}
 use native.Mathlib.Omega.{arith}
 use borrow.Author.Tests.{le-leb}
 use lib.ListN.{length}
-use Rattle.answers.specs.Write.{has_room, Writes}
+use Rattle.answers.specs.Write.{Writes}
 use Rattle.answers.specs.declared.put.Output.{Output}
 use Rattle.answers.specs.Put.{Put, Adds, Written}
 
