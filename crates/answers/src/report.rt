@@ -6,8 +6,8 @@ ghost use Rattle.forms.specs.Request.{node_of};
 ghost use Rattle.forms.specs.Answer.{direction_text, association_line, end_line};
 ghost use Rattle.answers.specs.Put.{Adds};
 
+use crate::line::OutputLine;
 use crate::put::Output;
-use crate::write::OutputLine;
 use calculus::answer::ShownAssociation;
 use calculus::network::{Kind, Node};
 

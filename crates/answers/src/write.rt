@@ -4,26 +4,11 @@ ghost use Rattle.forms.specs.Answer.{made_by_default_line, answer_text};
 ghost use Rattle.answers.specs.Write.{Writes};
 ghost use Rattle.answers.specs.Put.{Adds, Written};
 
+use crate::line::OutputLine;
 use crate::put::Output;
 use crate::room::has_room;
 use calculus::answer::{Answer, Refusal};
 use calculus::number::ItemNumber;
-
-// A line, newline and all.
-pub trait OutputLine {
-    ghost text: { Self → List ℕ };
-
-    ghost LONGEST: { ℕ };
-
-    // No line of this kind has more bytes.
-    const LONGEST: usize;
-
-    // Adds the line where there is room for the longest.
-    fn put(&self, out: &mut Output<'_>)
-        requires { out.old.at + LONGEST ≤ length out.old.out.now }
-        ensures added { Adds out.old (text self.now) out.new }
-        ensures few { out.new.at ≤ out.old.at + LONGEST };
-}
 
 impl<'a> Output<'a> {
     // Adds a line, or nothing where there is no room for the longest.

@@ -2,7 +2,7 @@
 #![tactic(auto)]
 
 use answers::report::{End, GivenNode, GivenRoute};
-use answers::write::{OutputLine, write};
+use answers::write::write;
 use calculus::answer::{Answer, Loss, Refusal, ShownAssociation};
 use calculus::network::{Kind, Node};
 use calculus::number::{ItemNumber, Spi};
@@ -20,16 +20,17 @@ fn put_number(rt: &HostRuntime, n: u64) -> io::Result<()> {
     print!(rt; " {n}")
 }
 
-// A line at place 4 of forty dots, and all forty.
-fn put_dotted<L: OutputLine>(rt: &HostRuntime, line: &L) -> io::Result<()> {
-    let mut out = [b'.'; 40];
-    write(&mut out, 4, line);
-    put(rt, &out)?;
+// Bytes, and a newline.
+fn put_all(rt: &HostRuntime, out: &[u8]) -> io::Result<()> {
+    put(rt, out)?;
     put(rt, b"\n")
 }
 
+// An answer at place 4 of forty dots, and all forty.
 fn put_answer(rt: &HostRuntime, answer: Result<Answer, Refusal>) -> io::Result<()> {
-    put_dotted(rt, &answer)
+    let mut out = [b'.'; 40];
+    write(&mut out, 4, &answer);
+    put_all(rt, &out)
 }
 
 fn put_credentials(rt: &HostRuntime, name: &[u8], set: [bool; 64]) -> io::Result<()> {
@@ -263,11 +264,24 @@ fn put_nothing(rt: &HostRuntime) -> io::Result<()> {
     put_gateway(rt, &mut [b'.'; 403])
 }
 
+// An association's line at place 4 of forty dots, and all forty.
+fn put_association(rt: &HostRuntime, x: ShownAssociation) -> io::Result<()> {
+    let mut out = [b'.'; 40];
+    write(&mut out, 4, &x);
+    put_all(rt, &out)
+}
+
+fn put_end(rt: &HostRuntime) -> io::Result<()> {
+    let mut out = [b'.'; 40];
+    write(&mut out, 4, &End);
+    put_all(rt, &out)
+}
+
 fn put_reports(rt: &HostRuntime) -> io::Result<()> {
-    put_dotted(rt, &association())?;
-    put_dotted(
+    put_association(rt, association())?;
+    put_association(
         rt,
-        &ShownAssociation {
+        ShownAssociation {
             node: 32,
             out: true,
             peer: 31,
@@ -275,7 +289,7 @@ fn put_reports(rt: &HostRuntime) -> io::Result<()> {
             users: 65535,
         },
     )?;
-    put_dotted(rt, &End)?;
+    put_end(rt)?;
     put_route(rt)?;
     put_gateway(rt, &mut [b'.'; 404])?;
     put_nothing(rt)

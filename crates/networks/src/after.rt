@@ -1,5 +1,5 @@
 // The network that an accepted node or route call leaves.
-ghost use Rattle.std.specs.Prelude.{◌≡◌, cond, set};
+ghost use Rattle.std.specs.Prelude.{◌≡◌, cond};
 ghost use Rattle.model.specs.Requests as spec;
 ghost use Rattle.model.specs.Turn as turns;
 
@@ -8,27 +8,20 @@ use calculus::network::{Kind, Network, Node};
 use calculus::number::pred;
 use calculus::request::Request;
 use lookups::network::route_place;
+use lookups::set::set_at;
 
 // Past the end of a table nothing is stored, as the definitions have it.
-fn store<T: Copy>(table: &mut [T], at: usize, x: T)
-    ensures { table.new ≡ set table.old at x }
-{
-    if at < table.len() {
-        table[at] = x;
-    }
-}
-
 fn with_node(n: &mut Network, a: u8, kind: Kind, has: [bool; 64], needs: [bool; 64])
     ensures { n.new ≡ spec.with_node n.old a kind has needs }
 {
     let node = Node { kind, has, needs };
-    store(&mut n.nodes, pred(a) as usize, Some(node));
+    set_at(&mut n.nodes, pred(a) as usize, Some(node));
 }
 
 fn with_route(n: &mut Network, a: u8, b: u8, hop: u8)
     ensures { n.new ≡ spec.with_route n.old a b hop }
 {
-    store(&mut n.routes, route_place(a, b), Some(hop));
+    set_at(&mut n.routes, route_place(a, b), Some(hop));
 }
 
 // The network with what a node or route call gives.
