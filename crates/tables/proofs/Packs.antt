@@ -1,15 +1,14 @@
 -- Loops that take every session's part out of a state, and that put them back, one session a turn. Assumes nothing.
-use mathlib.Core.Path.{◌≡◌, refl, sym, ◌∙◌}
+use mathlib.Core.Path.{◌≡◌, sym, ◌∙◌}
 use mathlib.Core.List.{List}
 use Prim.Native.Nat.{ℕ, ◌+◌, ◌≤◌, ◌<◌}
 use native.Mathlib.Decide.{dec_lt}
 use native.Mathlib.Omega.{arith}
-use lib.ListN.{length, get_or, set, replicate, length-set}
-use lib.Seq.{set-get_or, get_or-set_same, get_or-set_other}
+use lib.ListN.{length, get_or}
+use lib.Seq.{set-get_or, get_or-set_same}
 use Rattle.calculus.specs.declared.state.Part.{Part}
 use Rattle.calculus.specs.declared.state.State.{State}
 use Rattle.model.specs.State.{load, store}
-use Rattle.model.specs.Turn.{Parts, Held}
 use Rattle.model.proofs.Parts.{Sized, Whole, load_stored, load_others}
 
 -- of eight parts, the first i are those of s
