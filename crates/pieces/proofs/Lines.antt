@@ -2,16 +2,12 @@
 use mathlib.Core.Path.{◌≡◌}
 use mathlib.Core.Bool.{true, false}
 use mathlib.Core.List.{List}
-use Rattle.std.specs.Prelude.{Option, Some, None}
-use Prim.Native.Nat.{ℕ, ◌+◌}
+use Prim.Native.Nat.{ℕ}
 use native.Mathlib.Omega.{arith}
-use native.Mathlib.Nat.{zero-add}
-use borrow.Author.Tests.{ltb-false, lt-ltb, le-ltb}
-use lib.Dec.{ltb}
+use borrow.Author.Tests.{ltb-false, le-ltb}
 use lib.ListN.{length, take}
 use Rattle.calculus.proofs.Tests.{Way, is, isnt, way, clash}
-use Rattle.forms.specs.declared.line.Line.{Line}
-use Rattle.forms.specs.Line.{line_length, line_to, next_line}
+use Rattle.forms.specs.Line.{line_length}
 use Rattle.model.specs.Texts.{NoNewline}
 use Rattle.model.specs.Stream.{has_line, too_long, kept}
 use Rattle.model.proofs.Newlines.{line_length_most}
