@@ -1,5 +1,5 @@
 -- The rows of one establishment, or the others, picked out of a session's. Cited by `picked`. Assumes nothing.
-use Rattle.std.specs.Prelude.{ℕ, ◌+◌, ◌≡◌, Bool, cond, List, length, set}
+use Rattle.std.specs.Prelude.{◌+◌, ◌≡◌, Bool, cond, length, set}
 use Rattle.std.specs.Borrow.{Bor}
 use Rattle.std.specs.Fn.{Shared, FnReturnsAt}
 use Rattle.std.proofs.lemmas.List.Edits.{sets}

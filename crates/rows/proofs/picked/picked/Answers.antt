@@ -4,9 +4,6 @@ use Rattle.rows.proofs.picked.picked.Goals.{then-test, else-test}
 use Rattle.rows.proofs.Picks.{picked_more, left_out, picked_past}
 use Rattle.rows.proofs.picked.picked.Goals as goal
 
-pub push-requires : goal.push-requires
-push-requires g c = omega (arith, c.loop-row.invariant.0, c.held-row-items.ensures.few, c.loop-row-test.true)
-
 pub loop-row-preserved : goal.loop-row-preserved
 loop-row-preserved g c =
     let t = c.args.t.now in
