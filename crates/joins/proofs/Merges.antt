@@ -26,15 +26,6 @@ module _ {n m : Network} {a b : List ℕ} (g : IsTextOf a n × IsTextOf b m) whe
   pub whole_width : length (network_text (union n m)) ≤ 29376
   whole_width = given_back.fits (union n m) (unions.consistent n m g.0.consistent g.1.consistent)
 
--- ---- the first of two lines
-
-module _ {x first : List ℕ} (e : first ≡ x) (y : List ℕ) where
-  pub next_first : 0 < length first → first ≡ first_of x y
-  next_first h = rw (← e, lt-ltb 0 (length first) h)
-
-  pub next_second : {line : List ℕ} → length first ≤ 0 → line ≡ y → line ≡ first_of x y
-  next_second h w = rw (← e, le-ltb 0 (length first) h) w
-
 -- ---- the lines put
 
 -- the lines of the first k places are read, and the first of each two is put

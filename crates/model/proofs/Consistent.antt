@@ -5,7 +5,7 @@ use mathlib.Core.List.{List}
 use Prim.Native.Nat.{ℕ, ◌-◌, ◌<◌}
 use native.Mathlib.Decide.{ℕ_discrete}
 use native.Mathlib.Omega.{arith}
-use borrow.Author.Tests.{eqb-true, eq-eqb}
+use borrow.Author.Tests.{eqb-true, eq-eqb, ne_eqb}
 use lib.Dec.{eqb}
 use lib.ListN.{length, get_or, length-set, length-replicate, get_or-replicate}
 use lib.Seq.{get_or-set_same, get_or-set_other}
@@ -15,7 +15,7 @@ use Rattle.calculus.proofs.Tests.{never, either, both, not_so, within_bounds}
 use Rattle.calculus.specs.declared.network.Kind.{Kind}
 use Rattle.calculus.specs.declared.network.Network.{Network}
 use Rattle.calculus.specs.declared.network.Node as declared
-use Rattle.model.specs.Network.{node_at, given, is_default, route_place, route_to}
+use Rattle.model.specs.Network.{node_at, given, is_default, route_place, route_to, next_node}
 use Rattle.model.specs.State.{fresh}
 use Rattle.model.specs.Requests.{with_node, with_route, destination_given, nodes_given, leads_back}
 use Rattle.model.specs.GivenBack.{IsPlace, Passes, Consistent}
@@ -85,19 +85,22 @@ same_place a b c d h g i j e =
     let x = within_bounds 0 32 d j in
     (omega arith, omega arith)
 
-module _ (n : Network) (h : Consistent n) (a b next : ℕ) (at : Node a) (for : Destination b) where
+pub next_named : (next : ℕ) → Node next → next_node next ≡ Some next
+next_named next by = rw (ne_eqb next 0 (λ z. omega (arith, within_bounds 1 32 next by)))
+
+module _ (n : Network) (h : Consistent n) (a b next : ℕ) (at : Node a) (for : Destination b) (by : Node next) where
   pub route_set : (c d : ℕ) → Node c → Destination d → route_to (with_route n a b next) c d ≡ cond (eqb c a && eqb d b) (Some next) (route_to n c d)
   route_set c d i j = go (ℕ_discrete (route_place c d) (route_place a b))
     where
       go : Dec (route_place c d ≡ route_place a b) → route_to (with_route n a b next) c d ≡ cond (eqb c a && eqb d b) (Some next) (route_to n c d)
       go (yes w) =
           let s = same_place c d a b i j at for w in
-          let same = get_or-set_same n.routes (route_place a b) (Some next) None (omega (arith, place_below a b at for, h.routes)) in
-          rw (w, same, eq-eqb c a s.0, eq-eqb d b s.1)
+          let same = get_or-set_same n.routes (route_place a b) (next_node next) None (omega (arith, place_below a b at for, h.routes)) in
+          rw (w, same, next_named next by, eq-eqb c a s.0, eq-eqb d b s.1)
       go (no w) =
           let apart = not_so (eqb c a && eqb d b)
           (λ e. let z = both (eqb c a) (eqb d b) e in w (rw (eqb-true c a z.0, eqb-true d b z.1))) in
-          rw apart (get_or-set_other n.routes (route_place a b) (route_place c d) (Some next) None w)
+          rw apart (get_or-set_other n.routes (route_place a b) (route_place c d) (next_node next) None w)
 
 pub consistent_route : (n : Network) (a b next : ℕ) → nodes_given n a b next ≡ true → leads_back a b next ≡ false → Consistent n
     → Consistent (with_route n a b next)
@@ -105,10 +108,10 @@ unfolding node_at
 consistent_route n a b next e f h =
     record {
       nodes = h.nodes;
-      routes = length-set n.routes (route_place a b) (Some next) ∙ h.routes;
+      routes = length-set n.routes (route_place a b) (next_node next) ∙ h.routes;
       places = h.places;
       routed = λ c d m i j.
-          subst (λ (x : Option ℕ). x ≡ Some m → Passes n c d m) (sym (route_set n h a b next r.at r.for c d i j)) (passes c d m i j);
+          subst (λ (x : Option ℕ). x ≡ Some m → Passes n c d m) (sym (route_set n h a b next r.at r.for r.by c d i j)) (passes c d m i j);
     }
   where
     r : InRange a b next

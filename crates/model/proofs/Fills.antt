@@ -18,7 +18,8 @@ use Rattle.model.specs.NetworkText.{node_form, route_form, network_forms}
 use Rattle.model.specs.State.{fresh}
 use Rattle.model.specs.GivenBack.{IsNode, IsPlace, Passes, Consistent, fresh_with}
 use Rattle.model.proofs.Lists.{all_at}
-use Rattle.model.proofs.Nodes.{Node}
+use Rattle.model.proofs.Nodes.{Node, nodes_range}
+use Rattle.model.proofs.Consistent.{next_named}
 use Rattle.model.proofs.Gives.{ok, node_ok, route_ok, Gives, none_left, one_more, gives_append, table_gives}
 
 -- ---- the nodes
@@ -73,8 +74,10 @@ module _ (n : Network) (h : Consistent n) where
       let m : Network = record { nodes = n.nodes; routes = p ++ None ∷ r } in
       let place : route_place a b ≡ k = omega arith in
       let free : is_routed m a b ≡ false = rw (place, get_or_at p None r None k (omega arith)) in
+      let passes = place_routed k next few stored in
       one_more
-      (route_ok m a b next (place_routed k next few stored) free
+      (route_ok m a b next passes free
+      ∙ ap (λ (v : Option ℕ). ok (with_routes (set (p ++ None ∷ r) (route_place a b) v))) (next_named next (nodes_range n a b next passes.0).by)
       ∙ ap (λ (t : List (Option ℕ)). ok (with_routes t))
       (ap (λ (q : ℕ). set (p ++ None ∷ r) q (Some next)) place ∙ set_at p None r (Some next) k (omega arith)))
       none_left

@@ -46,6 +46,10 @@ place_destination p = p % 33
 abbrev pub route_to : Network → ℕ → ℕ → Option ℕ
 route_to n a b = get_or n.routes (route_place a b) None
 
+-- the next node that a route names: none by 0, which is no node
+abbrev pub next_node : ℕ → Option ℕ
+next_node next = cond (eqb next 0) None (Some next)
+
 -- one was given
 abbrev pub is_routed : Network → ℕ → ℕ → Bool
 is_routed n a b = is_some (route_to n a b)

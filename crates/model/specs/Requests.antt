@@ -25,7 +25,7 @@ use Rattle.calculus.specs.declared.state.Turn.{Turn}
 use Rattle.calculus.specs.Table.{entries_from, only_if}
 use Rattle.forms.specs.Answer.{association_line, end_line}
 use Rattle.model.specs.Lists.{those}
-use Rattle.model.specs.Network.{given, is_gateway, is_default, route_place, is_routed}
+use Rattle.model.specs.Network.{given, is_gateway, is_default, route_place, next_node, is_routed}
 use Rattle.model.specs.Packet.{bare}
 use Rattle.model.specs.Item.{is_wait, is_data_item, names_establishment, how_many_items}
 use Rattle.model.specs.Row.{held, is_of, is_other, place_out, place_node, place_peer, raised, lowered, spi_of}
@@ -66,7 +66,7 @@ with_node n a k has needs =
     record { nodes = set n.nodes (a - 1) (Some (record { kind = k; has = has; needs = needs })); routes = n.routes }
 
 abbrev pub with_route : Network → ℕ → ℕ → ℕ → Network
-with_route n a b next = record { nodes = n.nodes; routes = set n.routes (route_place a b) (Some next) }
+with_route n a b next = record { nodes = n.nodes; routes = set n.routes (route_place a b) (next_node next) }
 
 -- node 5, 3
 abbrev pub node_checks : Bool → Network → ℕ → List Check

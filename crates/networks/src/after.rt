@@ -1,5 +1,6 @@
 // The network that an accepted node or route call leaves.
 ghost use Rattle.std.specs.Prelude.{◌≡◌, cond};
+ghost use Rattle.model.specs.Network as network;
 ghost use Rattle.model.specs.Requests as spec;
 ghost use Rattle.model.specs.Turn as turns;
 
@@ -18,10 +19,17 @@ fn with_node(n: &mut Network, a: u8, kind: Kind, has: [bool; 64], needs: [bool; 
     set_at(&mut n.nodes, pred(a) as usize, Some(node));
 }
 
+// The next node that a route names: none by 0, which is no node.
+fn next_node(next: u8) -> Option<u8>
+    ensures { result ≡ network.next_node next }
+{
+    if next == 0 { None } else { Some(next) }
+}
+
 fn with_route(n: &mut Network, a: u8, b: u8, hop: u8)
     ensures { n.new ≡ spec.with_route n.old a b hop }
 {
-    set_at(&mut n.routes, route_place(a, b), Some(hop));
+    set_at(&mut n.routes, route_place(a, b), next_node(hop));
 }
 
 // The network with what a node or route call gives.
