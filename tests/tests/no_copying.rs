@@ -17,15 +17,16 @@ const WRITERS: [&str; 2] = ["answers", "reports"];
 const EXPORTS: [&str; 3] = ["pub use ", "pub fn byte(", "pub fn word("];
 
 /// What an array holds, where that shows that it holds no bytes.
-const HELD: [&str; 12] =
-    ["bool", "false", "u16", "u64", "0u64", "None", "Option<Node>", "Option<Slot>", "Part", "Row", "Session", "Slot"];
+const HELD: [&str; 11] =
+    ["bool", "false", "u16", "u64", "0u64", "Option<Node>", "Option<Slot>", "Part", "Row", "Session", "Slot"];
 
 /// What the language itself has that holds and copies no bytes: words, and methods.
 const PLAIN: [&str; 17] = [
     "Clone", "Copy", "Drop", "Eq", "Err", "Error", "Fn", "From", "Model", "None", "Ok", "Option", "PartialEq", "Result",
     "Self", "Some", "TryFrom",
 ];
-const PLAIN_METHODS: [&str; 25] = [
+const PLAIN_METHODS: [&str; 26] = [
+    "and_then",
     "any",
     "contains",
     "count",
@@ -148,6 +149,7 @@ const NAMED: &[(&str, &str)] = &[
     ("effects", "*l"),
     ("effects", "*tag"),
     ("rows", "*row"),
+    ("rows", ".copied"),
     ("items", "*s"),
     ("items", "*s"),
     ("items", "*s"),
@@ -157,7 +159,11 @@ const NAMED: &[(&str, &str)] = &[
     ("forms", "u64::from"),
     // a lemma
     ("lookups", "std::proofs::lemmas::List::take_all"),
-    // other tables
+    // other tables, and what they hold where nothing is given or pending
+    ("tables", "[None; 32]"),
+    ("tables", "[None; 1056]"),
+    ("tables", "[None; 128]"),
+    ("lookups", "[None; 16]"),
     ("tables", "[0; 2048]"),
     ("tables", "[session; 8]"),
     ("tables", "[row; 256]"),
@@ -384,6 +390,7 @@ fn a_buffer_put_in_is_found() {
         // a local array, also one that does not show what it holds, and one of a byte string
         ("answers/src/write.rt", "        match *self {", "let mut line = [0u8; 32];", "[0u8; 32]"),
         ("answers/src/put.rt", "        self.at = next;", "let line = [last];", "[last]"),
+        ("answers/src/put.rt", "        self.at = next;", "let mut line = [None; 400];", "[None; 400]"),
         ("answers/src/room.rt", "    room <= size", "let mut word = *b\"(made\";", "*b"),
         (
             "reports/src/network.rt",
