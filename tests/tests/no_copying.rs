@@ -131,7 +131,6 @@ const NAMED: &[(&str, &str)] = &[
     ("calculus", "[Option<u8>; 1056]"),
     // a table of the network, of its nodes or of its next hops
     ("lookups", "[Option<T>]"),
-    ("networks", "[T]"),
     // one of the parts of a table, taken out and put back
     ("tables", "[T]"),
     ("tables", "[T]"),
