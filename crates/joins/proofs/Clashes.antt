@@ -29,8 +29,8 @@ module _ {n m : Network} {a b : List ℕ} {i j k : ℕ} (s : Searching n m a b i
     unfolding somewhere
     next_search = s.same ∙ rw (p.line, q.line)
 
-    pub searching_more : model.differ x y ≡ false → Searching n m a b (i + length x) (j + length y) (k + 1)
-    searching_more e = record { first = p.more; second = q.more; same = next_search ∙ rw e }
+    pub searching_more : {i₁ j₁ : ℕ} → i₁ ≡ i + length x → j₁ ≡ j + length y → model.differ x y ≡ false → Searching n m a b i₁ j₁ (k + 1)
+    searching_more u v e = rw (u, v) record { first = p.more; second = q.more; same = next_search ∙ rw e }
 
     pub searching_stop : model.differ x y ≡ true → true ≡ model.clash n m
     searching_stop e = sym (next_search ∙ rw e)

@@ -3,9 +3,12 @@ use mathlib.Core.Path.{◌≡◌, refl, ap, ◌∙◌}
 use mathlib.Core.List.{List, [], ◌∷◌, ◌++◌, append_assoc}
 use Prim.Native.Nat.{ℕ, ◌+◌, ◌≤◌, ◌<◌}
 use native.Mathlib.Omega.{arith}
-use borrow.Author.Tests.{lt-ltb, le-ltb}
+use borrow.Author.Tests.{lt-ltb}
 use lib.ListN.{length, take, drop, length-append, length-drop}
 use lib.Seq.{length-take-le, take-add, take-length, drop-drop, take_at, drop_at, take-append_seam}
+use Rattle.std.specs.Prelude.{Option, Some, None, IfSome}
+use Rattle.std.specs.Option.{option_or}
+use Rattle.std.specs.Borrow.{Bor}
 use Rattle.calculus.specs.declared.network.Network.{Network}
 use Rattle.forms.specs.Bytes.{joined}
 use Rattle.model.specs.Join.{place_lines, together, union}
@@ -15,6 +18,7 @@ use Rattle.model.proofs.GivenBack.{given_back}
 use Rattle.model.proofs.Union.{unions}
 use Rattle.model.proofs.PlaceLines.{first_of, union_places, text_places}
 use Rattle.joins.specs.Front.{Front}
+use Rattle.joins.specs.Merge.{line_of}
 use Rattle.joins.proofs.LinesRead.{Unread, unread_all, unread_less, lines_left, LineRead, text_unread}
 
 -- ---- the whole text
@@ -25,6 +29,12 @@ module _ {n m : Network} {a b : List ℕ} (g : IsTextOf a n × IsTextOf b m) whe
 
   pub whole_width : length (network_text (union n m)) ≤ 29376
   whole_width = given_back.fits (union n m) (unions.consistent n m g.0.consistent g.1.consistent)
+
+-- ---- the first of two lines
+
+pub next_or : (x y : Option (Bor (List ℕ))) → IfSome x (λ l. 0 < length l.now) → line_of (option_or x y) ≡ first_of (line_of x) (line_of y)
+next_or None y h = refl
+next_or (Some l) y h = rw (lt-ltb 0 (length l.now) h)
 
 -- ---- the lines put
 
@@ -74,9 +84,9 @@ module _ {n m : Network} {a b out₀ out : List ℕ} {i j end k : ℕ} (s : Merg
     merging_end = (unread_less next_line).inside
 
     -- the part of the output from `end` on that the line takes is lent, and comes back as the line
-    pub merging_more : {size : ℕ} {part of_a of_b : List ℕ} → size ≡ length line → part ≡ line → of_a ≡ x → of_b ≡ y
-        → Merging n m a b out₀ (take end out ++ (part ++ drop size (drop end out))) (i + length of_a) (j + length of_b) (end + length line) (k + 1)
-    merging_more z w u v =
+    pub merging_more : {i₁ j₁ size : ℕ} {part : List ℕ} → i₁ ≡ i + length x → j₁ ≡ j + length y → size ≡ length line → part ≡ line
+        → Merging n m a b out₀ (take end out ++ (part ++ drop size (drop end out))) i₁ j₁ (end + length line) (k + 1)
+    merging_more u v z w =
         let put : take end out ≡ take end text = ap (take end) s.bytes ∙ take_at (take end text) (drop end out₀) end front in
         let old : drop end out ≡ drop end out₀ = ap (drop end) s.bytes ∙ drop_at (take end text) (drop end out₀) end front in
         let more : take (end + length line) text ≡ take end text ++ line = take-add end (length line) text ∙ rw (next_line.rest, take-append_seam) in
@@ -86,4 +96,16 @@ module _ {n m : Network} {a b out₀ out : List ℕ} {i j end k : ℕ} (s : Merg
           whole = unread_less next_line;
           width = s.width;
           bytes = rw (w, z, put, old, more, drop-drop, append_assoc);
+        }
+
+    -- without a line the output stays
+    pub merging_on : {i₁ j₁ : ℕ} → i₁ ≡ i + length x → j₁ ≡ j + length y → line ≡ [] → Merging n m a b out₀ out i₁ j₁ end (k + 1)
+    merging_on u v z =
+        let w : Unread text end ([] ∷ together first_of (lines_left n (k + 1)) (lines_left m (k + 1))) = rw z at next_line in
+        rw (u, v) record {
+          first = p.more;
+          second = q.more;
+          whole = record { inside = w.inside; rest = w.rest };
+          width = s.width;
+          bytes = s.bytes;
         }

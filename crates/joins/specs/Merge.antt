@@ -1,9 +1,10 @@
 -- A file that was read, and the lines of two networks' texts, place by place. Private functions of `joins` cite it. Assumes nothing.
 use Rattle.std.specs.Prelude.{ℕ, ◌-◌, ◌≡◌, Bool, false, cond, List, [], ltb, get_or, take, drop, Option, Some, None, is_some}
+use Rattle.std.specs.Borrow.{Bor}
 use Rattle.std.proofs.Math.Option.{some}
 use Rattle.calculus.specs.declared.network.Network.{Network}
 use Rattle.lines.specs.Behind.{behind}
-use Rattle.model.specs.Join.{File, is_sorted, is_there}
+use Rattle.model.specs.Join.{File, is_sorted}
 use Rattle.joins.specs.declared.text.NetworkText.{NetworkText}
 
 -- what is found in f: its text, if it is sorted
@@ -19,6 +20,7 @@ has_entry n k = cond (ltb k 32) (is_some (get_or n.nodes k None)) (is_some (get_
 abbrev pub line_part : List ℕ → ℕ → Bool → List ℕ
 line_part l from there = cond there (take (behind l from - from) (drop from l)) []
 
--- the line of one place: a part of a where a has one, else of b
-abbrev pub next_part : List ℕ → List ℕ → ℕ → ℕ → Bool → Bool → List ℕ
-next_part a b i j in_a in_b = cond (is_there (line_part a i in_a)) (line_part a i in_a) (line_part b j in_b)
+-- the bytes of a line that may be there
+abbrev pub line_of : Option (Bor (List ℕ)) → List ℕ
+line_of None = []
+line_of (Some l) = l.now

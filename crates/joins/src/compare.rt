@@ -1,6 +1,7 @@
 // Texts compared.
-ghost use Rattle.std.specs.Prelude.{◌≡◌};
+ghost use Rattle.std.specs.Prelude.{◌≡◌, ◌<◌, length, IfSome};
 ghost use Rattle.model.specs.Join as spec;
+ghost use Rattle.joins.specs.Merge.{line_of};
 
 // Whether the texts are the same bytes.
 #[tactic(auto, using(crate::proofs::Matches::same_text_is))]
@@ -11,8 +12,13 @@ pub fn same_text(a: &[u8], b: &[u8]) -> bool
 }
 
 // Whether both are there, and they are not the same.
-pub fn differ(x: &[u8], y: &[u8]) -> bool
-    ensures { result ≡ spec.differ x.now y.now }
+pub fn differ(x: Option<&[u8]>, y: Option<&[u8]>) -> bool
+    requires first { IfSome x (λ l. 0 < length l.now) }
+    requires second { IfSome y (λ l. 0 < length l.now) }
+    ensures { result ≡ spec.differ (line_of x.entry) (line_of y.entry) }
 {
-    !x.is_empty() && !y.is_empty() && !same_text(x, y)
+    match (x, y) {
+        (Some(x), Some(y)) => !same_text(x, y),
+        _ => false,
+    }
 }

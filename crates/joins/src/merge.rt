@@ -1,9 +1,10 @@
 // The lines of two networks' texts, place by place: whether they clash, and merged. At each turn the next line is a part of
 // whichever file it came from.
-ghost use Rattle.std.specs.Prelude.{◌≡◌, ◌≤◌, ◌<◌, length};
+ghost use Rattle.std.specs.Prelude.{◌≡◌, ◌≤◌, ◌<◌, ◌+◌, length, IfSome};
 ghost use Rattle.model.specs.NetworkText.{network_text};
 ghost use Rattle.model.specs.Join as join;
 ghost use Rattle.joins.specs.Merge as spec;
+ghost use Rattle.joins.specs.Merge.{line_of};
 ghost use Rattle.joins.specs.Front.{Front};
 
 use crate::compare::differ;
@@ -22,30 +23,20 @@ fn has_entry(n: &Network, k: usize) -> bool
     n.routes[k - 32].is_some()
 }
 
-// The line of `s` that starts at `from`, with its newline, if it is there; else the empty part.
-fn line_part<'a>(s: &'a [u8], from: usize, is_there: bool) -> &'a [u8]
-    ensures { result.now ≡ spec.line_part s.now from is_there }
+// The line of place k, with its newline, if the network has one; `at`, where it starts, goes on behind it.
+fn place_line<'a>(of: &NetworkText<'a>, at: &mut usize, k: usize) -> Option<&'a [u8]>
+    requires { k < 1088 }
+    ensures line { line_of result ≡ spec.line_part of.now.text.now at.old (spec.has_entry of.now.network k) }
+    ensures behind { at.new ≡ at.old + length (line_of result) }
+    ensures some { IfSome result (λ l. 0 < length l.now) }
 {
-    if is_there {
-        match next_line(s, from) {
-            Some(line) => &s[from..line.next],
-            None => &s[0..0],
-        }
-    } else {
-        &s[0..0]
+    if !has_entry(&of.network, k) {
+        return None;
     }
-}
-
-// The next line, that of one place: a part of `a` where `a` has one, else of `b`.
-fn next_part<'a>(a: &'a [u8], b: &'a [u8], i: usize, j: usize, in_a: bool, in_b: bool) -> &'a [u8]
-    ensures { result.now ≡ spec.next_part a.now b.now i j in_a in_b }
-{
-    let line = line_part(a, i, in_a);
-    if 0 < line.len() {
-        line
-    } else {
-        line_part(b, j, in_b)
-    }
+    let start = *at;
+    let line = next_line(of.text, start)?;
+    *at = line.next;
+    Some(&of.text[start..line.next])
 }
 
 // Whether the two networks clash: at some place both have a line, and not the same one.
@@ -55,15 +46,11 @@ pub fn clash(a: &NetworkText<'_>, b: &NetworkText<'_>) -> bool
     let mut i: usize = 0;
     let mut j: usize = 0;
     for k in 0..1088 {
-        let in_a = has_entry(&a.network, k);
-        let in_b = has_entry(&b.network, k);
-        let x = line_part(a.text, i, in_a);
-        let y = line_part(b.text, j, in_b);
+        let x = place_line(a, &mut i, k);
+        let y = place_line(b, &mut j, k);
         if differ(x, y) {
             return true;
         }
-        i += x.len();
-        j += y.len();
     }
     false
 }
@@ -77,16 +64,13 @@ pub fn merge(a: &NetworkText<'_>, b: &NetworkText<'_>, out: &mut [u8]) -> usize
     let mut j: usize = 0;
     let mut end: usize = 0;
     for k in 0..1088 {
-        let in_a = has_entry(&a.network, k);
-        let in_b = has_entry(&b.network, k);
-        let line = next_part(a.text, b.text, i, j, in_a, in_b);
-        let size = line.len();
-        out[end..end + size].copy_from_slice(line);
-        end += size;
-        let of_a = line_part(a.text, i, in_a);
-        let of_b = line_part(b.text, j, in_b);
-        i += of_a.len();
-        j += of_b.len();
+        let first = place_line(a, &mut i, k);
+        let second = place_line(b, &mut j, k);
+        if let Some(line) = first.or(second) {
+            let size = line.len();
+            out[end..end + size].copy_from_slice(line);
+            end += size;
+        }
     }
     end
 }

@@ -1,5 +1,5 @@
 -- The networks clash exactly if they do from place k on.
-use Rattle.std.proofs.Common.{rules}
+use Rattle.std.proofs.Common.{rules, refl}
 use Rattle.calculus.proofs.Tests.{join}
 use Rattle.joins.proofs.Clashes.{searching_none, searching_all, searching_more, searching_stop}
 use Rattle.joins.proofs.JoinCases.{text_of}
@@ -13,16 +13,18 @@ pub returns-then-differ : goal.returns-then-differ
 returns-then-differ c =
     let s = c.loop-k.invariant in
     searching_stop s
-    (line_read (text_of c.args.a.now) s.first (search rules) c.has_entry-in_a.ensures c.line_part-x.ensures)
-    (line_read (text_of c.args.b.now) s.second (search rules) c.has_entry-in_b.ensures c.line_part-y.ensures)
+    (line_read (text_of c.args.a.now) s.first (search rules) refl c.place_line-x.ensures.line)
+    (line_read (text_of c.args.b.now) s.second (search rules) refl c.place_line-y.ensures.line)
     (join c.differ.ensures c.if-differ.true)
 
 pub loop-k-preserved : goal.loop-k-preserved
 loop-k-preserved c =
     let s = c.loop-k.invariant in
     searching_more s
-    (line_read (text_of c.args.a.now) s.first (search rules) c.has_entry-in_a.ensures c.line_part-x.ensures)
-    (line_read (text_of c.args.b.now) s.second (search rules) c.has_entry-in_b.ensures c.line_part-y.ensures)
+    (line_read (text_of c.args.a.now) s.first (search rules) refl c.place_line-x.ensures.line)
+    (line_read (text_of c.args.b.now) s.second (search rules) refl c.place_line-y.ensures.line)
+    c.place_line-x.ensures.behind
+    c.place_line-y.ensures.behind
     (join c.differ.ensures c.if-differ.false)
 
 pub returns : goal.returns

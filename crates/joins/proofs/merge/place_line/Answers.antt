@@ -2,7 +2,7 @@
 use Rattle.std.proofs.Common.{arith}
 use Rattle.forms.proofs.Splits.{line_inside}
 use Rattle.calculus.proofs.Tests.{join}
-use Rattle.joins.proofs.merge.line_part.Goals as goal
+use Rattle.joins.proofs.merge.place_line.Goals as goal
 
 pub slice_bounds-result-end : goal.slice_bounds-result-end
-slice_bounds-result-end c = let inside = line_inside _ _ _ (join c.next_line.ensures c.in-Some.is) in omega (arith, inside)
+slice_bounds-result-end c = let inside = line_inside _ _ _ (join c.next_line.ensures c.in_ok-line.was) in omega (arith, inside)
