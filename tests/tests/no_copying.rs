@@ -25,7 +25,7 @@ const PLAIN: [&str; 17] = [
     "Clone", "Copy", "Drop", "Eq", "Err", "Error", "Fn", "From", "Model", "None", "Ok", "Option", "PartialEq", "Result",
     "Self", "Some", "TryFrom",
 ];
-const PLAIN_METHODS: [&str; 26] = [
+const PLAIN_METHODS: [&str; 27] = [
     "and_then",
     "any",
     "contains",
@@ -47,6 +47,7 @@ const PLAIN_METHODS: [&str; 26] = [
     "min",
     "ok",
     "ok_or",
+    "or",
     "position",
     "rev",
     "saturating_sub",
@@ -96,6 +97,14 @@ const NAMED: &[(&str, &str)] = &[
     ("simulate", ".write_all"),
     // a join's lines: parts of the two files, copied to the caller's slice
     ("joins", ".copy_from_slice"),
+    // where the next line of each of the two files starts
+    ("joins", "&mut usize"),
+    ("joins", "*at"),
+    ("joins", "*at"),
+    ("joins", "&mut i"),
+    ("joins", "&mut i"),
+    ("joins", "&mut j"),
+    ("joins", "&mut j"),
     // what a fresh state answers to a file, and the text of its network: compared with the file, and written nowhere
     ("joins", "[0u8; 70976]"),
     ("joins", "&mut scratch"),
