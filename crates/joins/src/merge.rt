@@ -7,7 +7,7 @@ ghost use Rattle.joins.specs.Merge as spec;
 ghost use Rattle.joins.specs.Merge.{line_of};
 ghost use Rattle.joins.specs.Front.{Front};
 
-use crate::compare::differ;
+use crate::compare::same_text;
 use crate::text::NetworkText;
 use calculus::network::Network;
 use forms::line::next_line;
@@ -37,6 +37,18 @@ fn place_line<'a>(of: &NetworkText<'a>, at: &mut usize, k: usize) -> Option<&'a 
     let line = next_line(of.text, start)?;
     *at = line.next;
     Some(&of.text[start..line.next])
+}
+
+// Whether both lines are there, and they are not the same.
+fn differ(x: Option<&[u8]>, y: Option<&[u8]>) -> bool
+    requires first { IfSome x (λ l. 0 < length l.now) }
+    requires second { IfSome y (λ l. 0 < length l.now) }
+    ensures { result ≡ join.differ (line_of x.entry) (line_of y.entry) }
+{
+    match (x, y) {
+        (Some(x), Some(y)) => !same_text(x, y),
+        _ => false,
+    }
 }
 
 // Whether the two networks clash: at some place both have a line, and not the same one.
