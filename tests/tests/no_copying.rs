@@ -25,7 +25,8 @@ const PLAIN: [&str; 17] = [
     "Clone", "Copy", "Drop", "Eq", "Err", "Error", "Fn", "From", "Model", "None", "Ok", "Option", "PartialEq", "Result",
     "Self", "Some", "TryFrom",
 ];
-const PLAIN_METHODS: [&str; 27] = [
+const PLAIN_METHODS: [&str; 29] = [
+    "all",
     "and_then",
     "any",
     "contains",
@@ -53,6 +54,7 @@ const PLAIN_METHODS: [&str; 27] = [
     "saturating_sub",
     "starts_with",
     "unwrap_or",
+    "zip",
 ];
 /// A macro that tests.
 const PLAIN_MACRO: &str = "matches";
@@ -157,6 +159,8 @@ const NAMED: &[(&str, &str)] = &[
     ("effects", "*l"),
     ("effects", "*tag"),
     ("rows", "*row"),
+    ("lookups", "*had"),
+    ("lookups", "*needed"),
     ("rows", ".copied"),
     ("items", "*s"),
     ("items", "*s"),

@@ -1,5 +1,6 @@
 // What is looked up in the network.
 ghost use Rattle.std.specs.Prelude.{◌≡◌, not, ◌||◌, None, get_or};
+ghost use Rattle.std.specs.List.{list_all, zip};
 ghost use Rattle.model.specs.Network as spec;
 
 use calculus::network::{Kind, Network, NextHop, Node};
@@ -86,19 +87,21 @@ fn is_met(has: bool, needs: bool) -> bool
     has || !needs
 }
 
+// Whether each credential, at its place in the two sets, is had or not needed.
+fn all_met(has: &[bool; 64], needs: &[bool; 64]) -> bool
+    ensures { result ≡ list_all (λ p. p.0 || not p.1) (zip has.now needs.now) }
+{
+    has.iter()
+        .zip(needs)
+        .all(|(had, needed)| is_met(*had, *needed))
+}
+
 // Whether every credential of `needs` is in `has`.
+#[tactic(auto, using(crate::proofs::Covers::covers_zip))]
 fn covers(has: &[bool; 64], needs: &[bool; 64]) -> bool
     ensures { result ≡ spec.covers has.now needs.now }
 {
-    let mut i: usize = 0;
-    while i < 64 {
-        if is_met(has[i], needs[i]) {
-            i += 1;
-        } else {
-            return false;
-        }
-    }
-    true
+    all_met(has, needs)
 }
 
 // What a node has; one that was not given has nothing.
