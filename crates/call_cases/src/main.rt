@@ -13,19 +13,15 @@ use simulator::call::call;
 use std::io::{self, Print};
 use tables::fresh::fresh;
 
-fn put(rt: &HostRuntime, word: &[u8]) -> io::Result<()> {
-    rt.write_all(word)
-}
-
 fn put_number(rt: &HostRuntime, n: u64) -> io::Result<()> {
     print!(rt; " {n}")
 }
 
 fn put_status(rt: &HostRuntime, status: Result<(), Refusal>) -> io::Result<()> {
     match status {
-        Ok(()) => put(rt, b"answered"),
+        Ok(()) => rt.write_all(b"answered"),
         Err(refusal) => {
-            put(rt, b"refusal")?;
+            rt.write_all(b"refusal")?;
             put_number(rt, u8::from(refusal) as u64)
         }
     }
@@ -46,21 +42,21 @@ fn count_dots(out: &[u8]) -> usize {
 
 // The call, and the state that it leaves.
 fn put_call(rt: &HostRuntime, state: State, line: &[u8], out: &mut [u8]) -> io::Result<State> {
-    put(rt, line)?;
-    put(rt, b" with")?;
+    rt.write_all(line)?;
+    rt.write_all(b" with")?;
     put_number(rt, out.len() as u64)?;
-    put(rt, b" bytes: ")?;
+    rt.write_all(b" bytes: ")?;
     let reply = call(state, line, out);
     put_status(rt, reply.status)?;
-    put(rt, b", written")?;
+    rt.write_all(b", written")?;
     put_number(rt, reply.written as u64)?;
     let n = first_dot(out);
-    put(rt, b", before the dots")?;
+    rt.write_all(b", before the dots")?;
     put_number(rt, n as u64)?;
-    put(rt, b", dots")?;
+    rt.write_all(b", dots")?;
     put_number(rt, count_dots(out) as u64)?;
-    put(rt, b"\n")?;
-    put(rt, &out[..n])?;
+    rt.write_all(b"\n")?;
+    rt.write_all(&out[..n])?;
     Ok(reply.state)
 }
 

@@ -12,18 +12,14 @@ use forms::read::read;
 use inputs::read_full;
 use std::io::{self, Print};
 
-fn put(rt: &HostRuntime, word: &[u8]) -> io::Result<()> {
-    rt.write_all(word)
-}
-
 fn put_number(rt: &HostRuntime, n: u64) -> io::Result<()> {
     print!(rt; " {n}")
 }
 
 // Bytes, and a newline.
 fn put_all(rt: &HostRuntime, out: &[u8]) -> io::Result<()> {
-    put(rt, out)?;
-    put(rt, b"\n")
+    rt.write_all(out)?;
+    rt.write_all(b"\n")
 }
 
 // An answer at place 4 of forty dots, and all forty.
@@ -34,36 +30,36 @@ fn put_answer(rt: &HostRuntime, answer: Result<Answer, Refusal>) -> io::Result<(
 }
 
 fn put_credentials(rt: &HostRuntime, name: &[u8], set: [bool; 64]) -> io::Result<()> {
-    put(rt, name)?;
+    rt.write_all(name)?;
     for (i, is_set) in set.iter().enumerate() {
         if *is_set {
             put_number(rt, i as u64)?;
         }
     }
-    put(rt, b")")
+    rt.write_all(b")")
 }
 
 fn put_node(rt: &HostRuntime, node: u8, kind: Kind) -> io::Result<()> {
-    put(rt, b"node")?;
+    rt.write_all(b"node")?;
     put_number(rt, node as u64)?;
     match kind {
-        Kind::Host => put(rt, b" host"),
-        Kind::Gateway => put(rt, b" gate"),
+        Kind::Host => rt.write_all(b" host"),
+        Kind::Gateway => rt.write_all(b" gate"),
     }
 }
 
 fn put_send(rt: &HostRuntime, session: u8, sender: Sender, tag: u32) -> io::Result<()> {
-    put(rt, b"send")?;
+    rt.write_all(b"send")?;
     put_number(rt, session as u64)?;
     match sender {
-        Sender::Client => put(rt, b" client")?,
-        Sender::Server => put(rt, b" server")?,
+        Sender::Client => rt.write_all(b" client")?,
+        Sender::Server => rt.write_all(b" server")?,
     }
     put_number(rt, tag as u64)
 }
 
 fn put_three(rt: &HostRuntime, word: &[u8], a: u8, b: u8, c: u8) -> io::Result<()> {
-    put(rt, word)?;
+    rt.write_all(word)?;
     put_number(rt, a as u64)?;
     put_number(rt, b as u64)?;
     put_number(rt, c as u64)
@@ -83,7 +79,7 @@ fn put_request(rt: &HostRuntime, request: Request) -> io::Result<()> {
             server,
         } => put_three(rt, b"open", session.0, client, server),
         Request::Step { session, item } => {
-            put(rt, b"step")?;
+            rt.write_all(b"step")?;
             put_number(rt, session.0 as u64)?;
             put_number(rt, item.0 as u64)
         }
@@ -93,16 +89,16 @@ fn put_request(rt: &HostRuntime, request: Request) -> io::Result<()> {
             tag,
         } => put_send(rt, session.0, sender, tag),
         Request::Close(session) => {
-            put(rt, b"close")?;
+            rt.write_all(b"close")?;
             put_number(rt, session.0 as u64)
         }
-        Request::Show => put(rt, b"show"),
-        Request::Net => put(rt, b"net"),
+        Request::Show => rt.write_all(b"show"),
+        Request::Net => rt.write_all(b"net"),
         Request::Drop {
             session,
             establishment,
         } => {
-            put(rt, b"drop")?;
+            rt.write_all(b"drop")?;
             put_number(rt, session.0 as u64)?;
             put_number(rt, establishment as u64)
         }
@@ -119,8 +115,8 @@ fn credentials_of(request: Request) -> ([bool; 64], [bool; 64]) {
 
 // A line, and what it asks.
 fn put_line(rt: &HostRuntime, line: &[u8]) -> io::Result<()> {
-    put(rt, line)?;
-    put(rt, b" -> ")?;
+    rt.write_all(line)?;
+    rt.write_all(b" -> ")?;
     match read(line) {
         Ok(request) => {
             put_request(rt, request)?;
@@ -129,11 +125,11 @@ fn put_line(rt: &HostRuntime, line: &[u8]) -> io::Result<()> {
             put_credentials(rt, b" (needs", needs)?;
         }
         Err(refusal) => {
-            put(rt, b"refusal")?;
+            rt.write_all(b"refusal")?;
             put_number(rt, u8::from(refusal) as u64)?;
         }
     }
-    put(rt, b"\n")
+    rt.write_all(b"\n")
 }
 
 fn put_refusals(rt: &HostRuntime) -> io::Result<()> {
@@ -211,9 +207,9 @@ fn association() -> ShownAssociation {
 // The place behind a line, then the bytes that it stands in.
 fn put_written(rt: &HostRuntime, next: usize, out: &[u8]) -> io::Result<()> {
     put_number(rt, next as u64)?;
-    put(rt, b" ")?;
-    put(rt, out)?;
-    put(rt, b"\n")
+    rt.write_all(b" ")?;
+    rt.write_all(out)?;
+    rt.write_all(b"\n")
 }
 
 fn route(at: u8, destination: u8, next: u8) -> GivenRoute {

@@ -19,20 +19,27 @@ pub fn blank_row() -> Row
     }
 }
 
+// A session that is not in use, and was issued numbers up to `last`.
+pub fn unused(last: ItemNumber) -> Session
+    ensures { result ≡ record spec.blank_session { last = last } }
+{
+    Session {
+        stage: Stage::Unused,
+        client: 0,
+        server: 0,
+        begun: 0,
+        rows: 0,
+        last,
+    }
+}
+
 // The part of a session that was never open.
 pub fn blank_part() -> Part
     ensures { result ≡ spec.blank_part }
 {
     let row = blank_row();
     Part {
-        session: Session {
-            stage: Stage::Unused,
-            client: 0,
-            server: 0,
-            begun: 0,
-            rows: 0,
-            last: ItemNumber(0),
-        },
+        session: unused(ItemNumber(0)),
         items: [None; 16],
         rows: [row; 32],
     }

@@ -34,20 +34,13 @@ pub fn stands(users: &[u16; 2048], out: bool, a: u8, q: u8) -> bool
     }
 }
 
-// 65,535 users stay.
-fn one_more(n: u16) -> u16
-    ensures { result ≡ spec.one_more n }
-{
-    if n < 65535 { n + 1 } else { n }
-}
-
 // The users once a row has come; as they were where its node or its peer is no node, or where they are 65,535.
 #[tactic(auto, unfolding(model::specs::Row::with_users))]
 pub fn raise(users: &mut [u16; 2048], r: Row)
     ensures { users.new ≡ spec.with_users spec.one_more users.old r }
 {
     if let Some(at) = place(r.out, r.node, r.peers.first) {
-        users[at] = one_more(users[at]);
+        users[at] = users[at].saturating_add(1);
     }
 }
 

@@ -1,4 +1,4 @@
--- The rows of one establishment, or the others, picked out of a session's. Cited by `picked`. Assumes nothing.
+-- The rows of one establishment, or the others, picked out of a session's. Cited by `picked`, `rows_of` and `other_rows`. Assumes nothing.
 use Rattle.std.specs.Prelude.{◌+◌, ◌≡◌, Bool, cond, length, set}
 use Rattle.std.specs.Borrow.{Bor}
 use Rattle.std.specs.Fn.{Shared, FnReturnsAt}

@@ -17,6 +17,7 @@ use effects::moves::stepped;
 use items::item::is_wait;
 use items::packet::bare;
 use items::places::{find, is_busy, is_full, put_item};
+use lookups::blank::unused;
 use lookups::network::{given, is_gateway};
 use lookups::rows::held;
 use lookups::users::lower;
@@ -146,14 +147,7 @@ fn empty(t: &mut Part, blank: &Part)
 {
     let last = t.session.last;
     *t = *blank;
-    t.session = Session {
-        stage: Stage::Unused,
-        client: 0,
-        server: 0,
-        begun: 0,
-        rows: 0,
-        last,
-    };
+    t.session = unused(last);
 }
 
 // close u, where `t` is u's part: refusal 7. It leaves the places of `blank`, which the caller has ready.

@@ -1,5 +1,5 @@
-// The calls of a text, one on each line, answered one after the other. The sessions' parts and the shared tables are taken out of
-// the state once, and put back once: a call moves one part, and not the whole state.
+// The calls of a text, one on each line, answered one after the other. The sessions' parts are taken out of the state once, and put
+// back once: a call changes its part in place, and the shared tables in the state.
 ghost use Rattle.std.specs.Prelude.{◌≡◌};
 ghost use Rattle.model.specs.Batch.{is_last, next_call, answered_text};
 ghost use Rattle.simulator.specs.Batch.{Answers};

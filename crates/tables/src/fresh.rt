@@ -4,22 +4,14 @@ ghost use Rattle.model.specs.State as spec;
 
 use calculus::network::Network;
 use calculus::number::ItemNumber;
-use calculus::session::{Session, Stage};
 use calculus::state::State;
-use lookups::blank::blank_row;
+use lookups::blank::{blank_row, unused};
 
 // No node, no route, no users; every session unused.
 pub fn fresh() -> State
     ensures { result ≡ spec.fresh }
 {
-    let session = Session {
-        stage: Stage::Unused,
-        client: 0,
-        server: 0,
-        begun: 0,
-        rows: 0,
-        last: ItemNumber(0),
-    };
+    let session = unused(ItemNumber(0));
     let row = blank_row();
     State {
         opened: false,
