@@ -25,7 +25,7 @@ const PLAIN: [&str; 17] = [
     "Clone", "Copy", "Drop", "Eq", "Err", "Error", "Fn", "From", "Model", "None", "Ok", "Option", "PartialEq", "Result",
     "Self", "Some", "TryFrom",
 ];
-const PLAIN_METHODS: [&str; 29] = [
+const PLAIN_METHODS: [&str; 30] = [
     "all",
     "and_then",
     "any",
@@ -51,6 +51,7 @@ const PLAIN_METHODS: [&str; 29] = [
     "or",
     "position",
     "rev",
+    "saturating_add",
     "saturating_sub",
     "starts_with",
     "unwrap_or",
