@@ -88,15 +88,15 @@ same_place a b c d h g i j e =
 pub next_named : (next : ℕ) → Node next → next_node next ≡ Some next
 next_named next by = rw (ne_eqb next 0 (λ z. omega (arith, within_bounds 1 32 next by)))
 
-module _ (n : Network) (h : Consistent n) (a b next : ℕ) (at : Node a) (for : Destination b) (by : Node next) where
-  pub route_set : (c d : ℕ) → Node c → Destination d → route_to (with_route n a b next) c d ≡ cond (eqb c a && eqb d b) (Some next) (route_to n c d)
+module _ (n : Network) (h : Consistent n) (a b next : ℕ) (at : Node a) (for : Destination b) where
+  pub route_set : (c d : ℕ) → Node c → Destination d → route_to (with_route n a b next) c d ≡ cond (eqb c a && eqb d b) (next_node next) (route_to n c d)
   route_set c d i j = go (ℕ_discrete (route_place c d) (route_place a b))
     where
-      go : Dec (route_place c d ≡ route_place a b) → route_to (with_route n a b next) c d ≡ cond (eqb c a && eqb d b) (Some next) (route_to n c d)
+      go : Dec (route_place c d ≡ route_place a b) → route_to (with_route n a b next) c d ≡ cond (eqb c a && eqb d b) (next_node next) (route_to n c d)
       go (yes w) =
           let s = same_place c d a b i j at for w in
           let same = get_or-set_same n.routes (route_place a b) (next_node next) None (omega (arith, place_below a b at for, h.routes)) in
-          rw (w, same, next_named next by, eq-eqb c a s.0, eq-eqb d b s.1)
+          rw (w, same, eq-eqb c a s.0, eq-eqb d b s.1)
       go (no w) =
           let apart = not_so (eqb c a && eqb d b)
           (λ e. let z = both (eqb c a) (eqb d b) e in w (rw (eqb-true c a z.0, eqb-true d b z.1))) in
@@ -111,17 +111,18 @@ consistent_route n a b next e f h =
       routes = length-set n.routes (route_place a b) (next_node next) ∙ h.routes;
       places = h.places;
       routed = λ c d m i j.
-          subst (λ (x : Option ℕ). x ≡ Some m → Passes n c d m) (sym (route_set n h a b next r.at r.for r.by c d i j)) (passes c d m i j);
+          subst (λ (x : Option ℕ). x ≡ Some m → Passes n c d m) (sym (route_set n h a b next r.at r.for c d i j)) (passes c d m i j);
     }
   where
     r : InRange a b next
     r = nodes_range n a b next e
 
-    passes : (c d m : ℕ) → Node c → Destination d → cond (eqb c a && eqb d b) (Some next) (route_to n c d) ≡ Some m → Passes n c d m
+    passes : (c d m : ℕ) → Node c → Destination d → cond (eqb c a && eqb d b) (next_node next) (route_to n c d) ≡ Some m → Passes n c d m
     passes c d m i j =
         either (λ (x : Option ℕ). x ≡ Some m → Passes n c d m) (eqb c a && eqb d b)
         (λ w k.
         let z = both (eqb c a) (eqb d b) w in
+        let named : Some next ≡ Some m = sym (next_named next r.by) ∙ k in
         let same : m ≡ next = cc in
         rw (eqb-true c a z.0, eqb-true d b z.1, same) (e, f))
         (λ w. h.routed c d m i j)

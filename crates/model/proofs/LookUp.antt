@@ -22,7 +22,7 @@ use Rattle.model.specs.GivenBack.{Consistent}
 use Rattle.model.specs.LookUp.{with_default, LookUp}
 use Rattle.model.proofs.Checks.{checked_either}
 use Rattle.model.proofs.Nodes.{Node, node_destination, InRange, nodes_range}
-use Rattle.model.proofs.Consistent.{route_fresh, route_set}
+use Rattle.model.proofs.Consistent.{route_fresh, next_named, route_set}
 
 -- ---- one look-up
 
@@ -51,7 +51,7 @@ hop_set : (n : Network) → Consistent n → (a b next : ℕ) → InRange a b ne
     ≡ hop (cond (eqb x a && eqb y b) (Some next) (route_to n x y)) (cond (eqb x a && eqb 0 b) (Some next) (route_to n x 0))
 hop_set n h a b next r x y i j =
     hop_between (with_route n a b next) x y i j
-    ∙ rw (route_set n h a b next r.at r.for r.by x y i (node_destination y j), route_set n h a b next r.at r.for r.by x 0 i refl)
+    ∙ rw (route_set n h a b next r.at r.for x y i (node_destination y j), route_set n h a b next r.at r.for x 0 i refl, next_named next r.by)
 
 exact_set : (n : Network) → Consistent n → (a b next : ℕ) → InRange a b next → Node b → (x y : ℕ)
     → next_hop (with_route n a b next) x y ≡ cond (eqb x a && eqb y b) (Some (Exact next)) (next_hop n x y)
