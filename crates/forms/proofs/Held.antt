@@ -35,7 +35,7 @@ module _ {l before after : List ℕ} {r : std.Option ListRead} (f : Filled l bef
     pub filled_few : x.count ≤ length before
     filled_few = rw e at f.few
 
-    fields_found : (n : ℕ) → length before ≡ 3 → length after ≡ 3
+    pub fields_found : (n : ℕ) → length before ≡ 3 → length after ≡ 3
         → cond (eqb x.count n && eqb x.used (length l)) (some (firsts n after)) none ≡ fields 10 n l
     unfolding fields
     fields_found n h g =

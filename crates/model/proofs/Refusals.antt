@@ -43,7 +43,7 @@ Gives s x = Says s (network_turn s x)
 -- ---- a session's move
 
 -- a refusal that is written, or an answer of one line
-abbrev Answers : Move → Type 0
+abbrev pub Answers : Move → Type 0
 Answers (Err r) = IsWritten r
 Answers (Ok m) = Unit
 
@@ -56,7 +56,7 @@ step_at_answers n standing t None = go (unused t)
     go false = refl
 step_at_answers n standing t (Some (at, s)) = checked_written Answers (λ r w. w) _ (refl, (refl, (refl, tt))) tt
 
-move_answers : (n : Network) (standing : ℕ → ℕ → Bool) (q : request.Request) (t : Part) → Answers (own_move n standing q t)
+pub move_answers : (n : Network) (standing : ℕ → ℕ → Bool) (q : request.Request) (t : Part) → Answers (own_move n standing q t)
 unfolding open_move step_move send_move close_move drop_move
 move_answers n standing q t =
     own_cases Answers n standing q t refl

@@ -134,7 +134,7 @@ pending_weigh (None ∷ l) = omega (arith, pending_weigh l)
 pending_weigh (Some s ∷ l) = omega (arith, pending_weigh l)
 
 module _ (w : Item → ℕ) where
-  weigh_set : (l : List (Option Slot)) (i : ℕ) (x : Option Slot) → i < length l
+  pub weigh_set : (l : List (Option Slot)) (i : ℕ) (x : Option Slot) → i < length l
       → weigh w (set l i x) + weight_in w (slot_at l i) ≡ weigh w l + weight_in w x
   unfolding weigh
   weigh_set [] i x h = absurd (omega arith)
