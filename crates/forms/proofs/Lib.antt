@@ -8,6 +8,7 @@ pub mod NodeForm
 pub mod Exact
 pub mod Loops
 pub mod Parts
+pub mod Picks
 pub mod Held
 pub mod Tallies
 pub mod Splits
