@@ -18,7 +18,8 @@ width_number n h = width_most 9 n (omega arith)
 pub width_byte : (n : ℕ) → n < 2 ^ 8 → length (decimal n) ≤ 3
 width_byte n h = width_most 2 n (omega arith)
 
-refusal_small : (r : refusal.Refusal) → refusal_number r < 2 ^ 32
+-- a refusal's number
+pub refusal_small : (r : refusal.Refusal) → refusal_number r < 2 ^ 32
 refusal_small refusals.Short = omega arith
 refusal_small refusals.Unreadable = omega arith
 refusal_small refusals.Range = omega arith
