@@ -38,10 +38,10 @@ unfolding list_text
 put_more word n ns e f = simp append_assoc (simp append_assoc at (put_append e f))
 
 -- a text copied to a part of its length is put there
-pub put_copied : (l text m : List ℕ) (at k : ℕ) → at + length text ≤ length l → m ≡ text → k ≡ length text
-    → Put l at text (put_mid at k l m) (at + length text)
-put_copied l text m at k h e f = record {
-  place = refl;
+pub put_copied : (l text m : List ℕ) (at k p : ℕ) → at + length text ≤ length l → m ≡ text → k ≡ length text → p ≡ at + length text
+    → Put l at text (put_mid at k l m) p
+put_copied l text m at k p h e f place = record {
+  place = place;
   bytes = put_mid-paste at k l m text (length text) e (sym f) refl
       ∙ (paste_all l at text (length text) refl ∙ (sym (append_assoc (take at l) text (drop (at + length text) l)) ∙ sym (sets-eq text l at h)));
 }
