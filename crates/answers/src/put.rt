@@ -4,7 +4,22 @@ ghost use Rattle.forms.specs.Bytes.{decimal};
 ghost use Rattle.forms.specs.Text.{list_text};
 ghost use Rattle.forms.specs.Request.{credentials_from};
 ghost use Rattle.forms.specs.Answer.{line_text};
-ghost use Rattle.answers.specs.Put.{Adds};
+ghost use Rattle.answers.specs.Put.{Put, Adds};
+
+// `n` in decimal at `at`: what stands before its last digit, then that digit; answers the place behind them. It is lent the slice and told
+// the place, and not the output that has both: so the place stays in a register, here and where an output's texts follow one another.
+fn put_number(out: &mut [u8], at: usize, n: u64) -> usize
+    requires { at + length (decimal n) ≤ length out.old }
+    ensures { Put out.old at (decimal n) out.new result }
+{
+    if n < 10 {
+        out[at] = b'0' + n as u8;
+        return at + 1;
+    }
+    let last = put_number(out, at, n / 10);
+    out[last] = b'0' + (n % 10) as u8;
+    last + 1
+}
 
 // A lent output, and the place of its next text. What adds a text has made sure of the room.
 #[derive(Drop)]
@@ -24,26 +39,12 @@ impl<'a> Output<'a> {
         self.at = next;
     }
 
-    // One byte.
-    fn byte(&mut self, byte: u8)
-        requires { self.old.at < length self.old.out.now }
-        ensures { Adds self.old (byte ∷ []) self.new }
-    {
-        self.out[self.at] = byte;
-        self.at += 1;
-    }
-
-    // `n` in decimal: what stands before its last digit, then that digit.
+    // `n` in decimal.
     pub(crate) fn number(&mut self, n: u64)
         requires { self.old.at + length (decimal n) ≤ length self.old.out.now }
         ensures { Adds self.old (decimal n) self.new }
     {
-        if n < 10 {
-            self.byte(b'0' + n as u8);
-        } else {
-            self.number(n / 10);
-            self.byte(b'0' + (n % 10) as u8);
-        }
+        self.at = put_number(self.out, self.at, n);
     }
 
     // A word, then a number right behind it.
