@@ -1,7 +1,8 @@
 //! #105: a line is written straight into the caller's slice, with no buffer of bytes of the simulator's own between. The source is
 //! searched for one. No global changes, so a buffer is an array, or a value of a type that the toolchain's libraries have, as `Vec`, and
-//! bytes come into it, or into a slice, by a store, by a lend or by what those libraries have: a path, a type, a method or a macro that
-//! the source does not declare. Each of those that the source has is named below as what it is; any other is found.
+//! bytes come into it, or into a slice, by a store, by a lend, by a function over elements of any type or by what those libraries have: a
+//! path, a type, a method or a macro that the source does not declare. Each of those that the source has is named below as what it is; any
+//! other is found.
 
 use simulator_tests::script::here;
 use simulator_tests::source::{inside, is_named, parts, places, sources, words, Source};
@@ -12,8 +13,9 @@ use std::fs;
 const CASES: [&str; 2] = ["call_cases", "form_cases"];
 
 /// The crates that make lines out of words and numbers. What they are lent to read are words of the form language, which are constants: they borrow
-/// nothing, and nobody outside can lend them bytes: no public function takes any, and what puts bytes is the crate's own.
+/// nothing, and nobody outside can lend them bytes: no public function takes any, and of the file `PUT` only a type is public.
 const WRITERS: [&str; 2] = ["answers", "reports"];
+const PUT: &str = "answers/src/put.rt";
 const EXPORTS: [&str; 3] = ["pub use ", "pub fn byte(", "pub fn word("];
 
 /// What an array holds, where that shows that it holds no bytes.
@@ -60,16 +62,21 @@ const PLAIN_METHODS: [&str; 30] = [
 /// A macro that tests.
 const PLAIN_MACRO: &str = "matches";
 
+/// What shows that a crate has bytes to write: a slice of them is lent, or the writer's output.
+const BYTES: [&str; 2] = ["mut [u8]", "Output"];
+
 /// What the source has of these, by crate.
 const NAMED: &[(&str, &str)] = &[
     // the two places that write bytes of a call's answer: a digit, and a word, which is a constant
     ("answers", "self.out[self.at] ="),
     ("answers", ".copy_from_slice"),
     // the output with its place, and what a line is made of: no bytes
+    ("answers", "pub struct"),
+    ("answers", "pub out"),
+    ("answers", "pub at"),
     ("answers", "*self"),
     ("answers", "u8::from"),
     ("answers", "u8::from"),
-    ("answers", "*n"),
     ("answers", "*is_held"),
     ("answers", "&self.node.has"),
     ("answers", "&self.node.needs"),
@@ -153,6 +160,23 @@ const NAMED: &[(&str, &str)] = &[
     ("tables", ".copy_from_slice"),
     ("tables", "[load_at(s, 0); 8]"),
     ("lookups", "[T]"),
+    // elements of these taken out, put back, stored or walked
+    ("lookups", "entry(&n.nodes, a as usize - 1)"),
+    ("lookups", "entry(&n.routes, route_place(a, b))"),
+    ("networks", "set_at(&mut n.nodes, pred(a) as usize, Some(node))"),
+    ("networks", "set_at(&mut n.routes, route_place(a, b), next_node(hop))"),
+    ("items", "set_at(items, at, None)"),
+    ("items", "set_at(items, at, Some(Slot { number: n, item: i }))"),
+    ("effects", "set_at(items, at, None)"),
+    ("effects", "set_at(rows, at, older)"),
+    ("effects", "set_at(rows, at + 1, newer)"),
+    ("tables", "block(&s.items, at)"),
+    ("tables", "block(&s.rows, at)"),
+    ("tables", "put_block(&mut s.items, at, &t.items)"),
+    ("tables", "put_block(&mut s.rows, at, &t.rows)"),
+    ("reports", "put_table(out, users)"),
+    ("reports", "put_table(out, &n.nodes)"),
+    ("reports", "put_table(out, &n.routes)"),
     // numbers, rows and places, each behind a reference to one of them
     ("effects", "*i"),
     ("effects", "*i"),
@@ -211,7 +235,7 @@ fn arrays(code: &str) -> Vec<Found> {
         let held = array.split([';', ',']).next().unwrap_or_default();
         let indexes = before.ends_with(|c| is_named(c) || ")]\"#".contains(c)) || before.ends_with("#!");
         // a slice of bytes is lent
-        if !indexes && array != "u8" && !HELD.contains(&held) && !held.ends_with(" as u64") {
+        if !indexes && array != "u8" && !HELD.contains(&held) {
             found.push((before.len(), format!("[{array}]")));
         }
     }
@@ -249,19 +273,23 @@ fn lends(code: &str, mark: &str, declared: &Declared) -> Vec<Found> {
     found
 }
 
-/// What the source declares: its crates, and their modules and types, with the variants of these; and its methods.
+/// What the source declares: its crates, and their modules and types, with the variants of these; its methods; and its functions over
+/// elements of any type, each with the crate that has it to itself, if one has.
 struct Declared {
     names: BTreeSet<String>,
     methods: BTreeSet<String>,
+    over_any: Vec<(String, Option<String>)>,
 }
 
 impl Declared {
-    fn of(codes: &[&str]) -> Self {
+    fn of(files: &[(&Source, String)]) -> Self {
         let text = fs::read_to_string(here("crates.txt")).expect("crates.txt is read");
         let crates = text.lines().filter_map(|line| line.split_once(':')).map(|(name, _)| name.to_string());
         let mut names: BTreeSet<_> = crates.chain(["crate", "self", "super"].map(str::to_string)).collect();
         let mut methods: BTreeSet<_> = PLAIN_METHODS.map(str::to_string).into();
-        for (before, word, behind) in codes.iter().flat_map(|code| words(code)) {
+        let mut over_any = Vec::new();
+        let all = files.iter().flat_map(|(source, code)| words(code).map(move |found| (source.crate_name(), found)));
+        for (crate_name, (before, word, behind)) in all {
             let declares = ["mod ", "struct ", "enum ", "trait ", "const "].iter().any(|mark| before.ends_with(mark));
             let is_parameter = before.ends_with('<') && behind.starts_with(": ");
             if declares && !before.ends_with("*const ") || is_parameter {
@@ -275,9 +303,70 @@ impl Declared {
             if before.ends_with("fn ") && parts(parameters).first().is_some_and(|first| first.ends_with("self")) {
                 methods.insert(word.to_string());
             }
+            if before.ends_with("fn ") && is_over_any(behind) {
+                over_any.push((word.to_string(), (!is_public(before)).then(|| crate_name.to_string())));
+            }
         }
-        Declared { names, methods }
+        Declared { names, methods, over_any }
     }
+}
+
+/// The parameters in the list `<..>` that a text starts with, but for lifetimes.
+fn type_parameters(text: &str) -> Vec<&str> {
+    let mut found = Vec::new();
+    let mut open = 0;
+    for (at, c) in text.char_indices() {
+        match c {
+            '<' | '(' | '[' => open += 1,
+            '>' if text[..at].ends_with('-') => {}
+            '>' | ')' | ']' => open -= 1,
+            _ => {}
+        }
+        if open == 1 && (c == '<' || c == ',') {
+            found.push(name_at(text[at + 1..].trim_start()));
+        }
+        if open == 0 || at == 0 && c != '<' {
+            break;
+        }
+    }
+    found
+}
+
+/// Whether a function, here from behind its name on, has an array or a slice whose elements are of any type.
+fn is_over_any(behind: &str) -> bool {
+    let types = type_parameters(behind);
+    let declaration = behind.split('{').next().unwrap_or_default();
+    let holds_any = |array: &str| words(array).any(|(_, word, _)| types.contains(&word));
+    places(declaration, "[").any(|(_, array)| holds_any(inside(array)))
+}
+
+/// The uses of functions over elements of any type, each with what it is called on.
+fn uses_over_any(source: &Source, code: &str, declared: &Declared) -> Vec<Found> {
+    let mut found = Vec::new();
+    for (before, word, behind) in words(code) {
+        let is_it = |(name, only): &(String, Option<String>)| {
+            name == word && only.as_ref().is_none_or(|only| only == source.crate_name())
+        };
+        let is_import = || is_imported(before) && !behind.starts_with(" as ");
+        if declared.over_any.iter().any(is_it) && !before.ends_with("fn ") && !is_import() {
+            let is_called = behind.starts_with(['(', ':']);
+            let (types, arguments) = behind.split_once('(').filter(|_| is_called).unwrap_or_default();
+            let call = if is_called { format!("{word}{types}({})", inside(arguments)) } else { word.to_string() };
+            found.push((before.len(), call.split_whitespace().collect::<Vec<_>>().join(" ")));
+        }
+    }
+    found
+}
+
+/// Whether a word stands in an import.
+fn is_imported(before: &str) -> bool {
+    let item = before.rsplit([';', ']']).next().unwrap_or_default().trim_start();
+    item.starts_with("use ") || item.starts_with("pub use ")
+}
+
+/// Whether others may use what is declared there.
+fn is_public(before: &str) -> bool {
+    before.rsplit('\n').next().is_some_and(|line| line.trim_start().starts_with("pub "))
 }
 
 /// Each path that starts at this one; behind it a list in braces may go on.
@@ -296,8 +385,7 @@ fn library(code: &str, declared: &Declared) -> Vec<Found> {
     let mut types = BTreeSet::new();
     for (before, word, behind) in words(code) {
         let is_own = declared.names.contains(word);
-        let item = before.rsplit([';', ']']).next().unwrap_or_default().trim_start();
-        let is_imported = item.starts_with("use ") || item.starts_with("pub use ");
+        let is_imported = is_imported(before);
         let calls = behind.starts_with(['(', ':']);
         if before.ends_with("::") || word.starts_with(char::is_numeric) {
             continue;
@@ -331,11 +419,10 @@ fn dereferences(code: &str) -> Vec<Found> {
 fn lent_to_read(code: &str) -> Vec<Found> {
     let mut found = Vec::new();
     for (before, behind) in places(code, "fn ") {
-        let is_public = before.rsplit('\n').next().is_some_and(|line| line.trim_start().starts_with("pub "));
         let parameters = inside(behind.split_once('(').unwrap_or_default().1);
         let is_bytes = |parameter: &str| parameter.ends_with("[u8]") || parameter.ends_with("str");
         let is_lent = |parameter: &str| is_bytes(parameter) && !parameter.contains("mut ");
-        if is_public && parameters.split(',').any(is_lent) {
+        if is_public(before) && parameters.split(',').any(is_lent) {
             found.push((before.len(), format!("fn {}", name_at(behind))));
         }
     }
@@ -348,7 +435,8 @@ fn name_at(text: &str) -> &str {
 
 /// What is found in a file; of stores and lends those where its crate has bytes to write.
 fn found_in(source: &Source, code: &str, declared: &Declared, has_bytes: bool) -> Vec<Found> {
-    let mut found = [arrays(code), dereferences(code), library(code, declared)].concat();
+    let mut found =
+        [arrays(code), dereferences(code), library(code, declared), uses_over_any(source, code, declared)].concat();
     if has_bytes {
         found.extend(stores(code));
         found.extend(lends(code, "&mut ", declared));
@@ -361,17 +449,20 @@ fn found_in(source: &Source, code: &str, declared: &Declared, has_bytes: bool) -
         );
         found.extend(lent_to_read(code));
     }
+    if source.path == PUT {
+        found.extend(places(code, "pub ").map(|(before, behind)| (before.len(), format!("pub {}", name_at(behind)))));
+    }
     found
 }
 
 /// What is found and not named, then what is named and not found.
 fn search(sources: &[Source]) -> (Vec<String>, Vec<(&'static str, &'static str)>) {
     let files: Vec<_> = sources.iter().map(|source| (source, source.code())).collect();
-    let declared = Declared::of(&files.iter().map(|(_, code)| &code[..]).collect::<Vec<_>>());
+    let declared = Declared::of(&files);
     let (mut found, mut named) = (Vec::new(), NAMED.to_vec());
     for (source, code) in &files {
-        let has_bytes =
-            files.iter().any(|(other, code)| other.crate_name() == source.crate_name() && code.contains("mut [u8]"));
+        let is_mark = |code: &String| BYTES.iter().any(|mark| code.contains(mark));
+        let has_bytes = files.iter().any(|(other, code)| other.crate_name() == source.crate_name() && is_mark(code));
         for (at, text) in found_in(source, code, &declared, has_bytes) {
             match named.iter().position(|name| *name == (source.crate_name(), &text[..])) {
                 Some(place) => drop(named.remove(place)),
@@ -404,6 +495,12 @@ fn a_buffer_put_in_is_found() {
         ("answers/src/write.rt", "        match *self {", "let mut line = [0u8; 32];", "[0u8; 32]"),
         ("answers/src/put.rt", "        self.at = next;", "let line = [last];", "[last]"),
         ("answers/src/put.rt", "        self.at = next;", "let mut line = [None; 400];", "[None; 400]"),
+        (
+            "answers/src/put.rt",
+            "        self.at = next;",
+            "let line = [next as u64, word[0] as u64];",
+            "[next as u64, word[0] as u64]",
+        ),
         ("answers/src/room.rt", "    room <= size", "let mut word = *b\"(made\";", "*b"),
         (
             "reports/src/network.rt",
@@ -436,10 +533,26 @@ fn a_buffer_put_in_is_found() {
         ("pieces/src/lib.rt", "    let kept = keep", "out[..4].copy_from_slice(b\"(ok)\");", ".copy_from_slice"),
         ("reports/src/show.rt", "    out.write(&End);", "for byte in out.iter_mut() {}", ".iter_mut"),
         ("pieces/src/lib.rt", "    let kept = keep", "keep(&mut out[from..], 4, to);", "&mut out[from..]"),
-        ("answers/src/put.rt", "        self.word(b\"\\n\");", "self.word(&out[..at]);", "&out[..at]"),
+        ("answers/src/put.rt", "        self.word(b\")\\n\");", "self.word(&out[..at]);", "&out[..at]"),
+        // the same by a function over elements of any type, under its name or another
+        ("simulator/src/call.rt", "    let asked = read(line);", "set_at(out, 0, line[0]);", "set_at(out, 0, line[0])"),
+        ("pieces/src/lib.rt", "    let kept = keep", "set_at(out, 0, input[0]);", "set_at(out, 0, input[0])"),
+        ("joins/src/merge.rt", "        end += size;", "set_at(out, end, line[0]);", "set_at(out, end, line[0])"),
+        ("joins/src/lib.rt", "    let answer: Result<", "set_at(out, 0, 40);", "set_at(out, 0, 40)"),
+        ("joins/src/lib.rt", "use answers::", "use lookups::set::set_at as keep;", "set_at"),
+        ("tables/src/places.rt", "    Part {", "let line = block(b\"(made 1)\", 0);", "block(b\"\", 0)"),
+        // in a crate that is lent no other bytes
+        (
+            "turns/src/lib.rt",
+            "// What a line answers",
+            "fn mark(out: &mut Output<'_>) { out.out[0] = 40; }",
+            "out.out[0] =",
+        ),
         // a way for others to have bytes copied
         ("answers/src/write.rt", "// Writes", "pub fn copy(out: &mut [u8], s: &[u8]) {}", "fn copy"),
         ("answers/src/put.rt", "    // One byte.", "pub fn byte(&mut self, byte: u8) {}", "pub fn byte("),
+        ("answers/src/put.rt", "    // One byte.", "pub fn raw(&mut self, b: u8) { self.byte(b); }", "pub fn"),
+        ("answers/src/put.rt", "    // One byte.", "pub fn number(&mut self, n: u64) {}", "pub fn"),
         ("answers/src/lib.rt", "pub mod write;", "pub use crate::put::Output;", "pub use "),
         ("answers/src/put.rt", "    // One byte.", "pub fn copy(&mut self, s: &[u8]) {}", "fn copy"),
     ];

@@ -1,6 +1,5 @@
 -- Laws that belong to no one function.
 pub mod Sets
-pub mod Lists
 pub mod Writes
 pub mod Widths
 pub mod Credentials

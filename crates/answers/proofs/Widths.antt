@@ -3,6 +3,9 @@ use mathlib.Core.List.{[], ◌∷◌}
 use Prim.Native.Nat.{ℕ, ◌^◌, ◌≤◌, ◌<◌}
 use native.Mathlib.Omega.{arith}
 use lib.ListN.{length, length-append}
+use Rattle.calculus.specs.Answer.{refusal_number}
+use Rattle.calculus.specs.declared.answer.Refusal as refusal
+use Rattle.calculus.specs.declared.answer.Refusal.TheVariants as refusals
 use Rattle.forms.specs.Bytes.{bytes, decimal}
 use Rattle.forms.specs.Text.{list_text}
 use Rattle.forms.specs.Answer.{line_text}
@@ -14,6 +17,27 @@ width_number n h = width_most 9 n (omega arith)
 
 pub width_byte : (n : ℕ) → n < 2 ^ 8 → length (decimal n) ≤ 3
 width_byte n h = width_most 2 n (omega arith)
+
+-- a refusal's number
+pub refusal_small : (r : refusal.Refusal) → refusal_number r < 2 ^ 32
+refusal_small refusals.Short = omega arith
+refusal_small refusals.Unreadable = omega arith
+refusal_small refusals.Range = omega arith
+refusal_small refusals.Double = omega arith
+refusal_small refusals.Unknown = omega arith
+refusal_small refusals.Late = omega arith
+refusal_small refusals.Taken = omega arith
+refusal_small refusals.Idle = omega arith
+refusal_small refusals.Same = omega arith
+refusal_small refusals.Gateway = omega arith
+refusal_small refusals.Spent = omega arith
+refusal_small refusals.NoItem = omega arith
+refusal_small refusals.Waiting = omega arith
+refusal_small refusals.Full = omega arith
+refusal_small refusals.Clash = omega arith
+refusal_small refusals.Unsorted = omega arith
+refusal_small refusals.Busy = omega arith
+refusal_small refusals.NoSuchTunnel = omega arith
 
 -- ---- the rest of a line, behind its word
 

@@ -8,6 +8,7 @@ ghost use Rattle.answers.specs.Put.{Adds};
 
 use crate::line::OutputLine;
 use crate::put::Output;
+use crate::room::{LONGEST, LONGEST_NODE};
 use calculus::answer::ShownAssociation;
 use calculus::network::{Kind, Node};
 
@@ -26,17 +27,14 @@ impl OutputLine for ShownAssociation {
 
     ghost LONGEST = { 32 };
 
-    const LONGEST: usize = 32;
+    const LONGEST: usize = LONGEST;
 
     #[tactic(auto, using(crate::proofs::Widths::width_byte, crate::proofs::Widths::width_three))]
     fn put(&self, out: &mut Output<'_>) {
         out.word(b"(assoc ");
         out.number(self.node as u64);
         out.word(direction_word(self.out));
-        out.line(
-            b"",
-            &[self.peer as u64, self.spi.0 as u64, self.users as u64],
-        );
+        out.three(b"", self.peer as u64, self.spi.0 as u64, self.users as u64);
     }
 }
 
@@ -49,7 +47,7 @@ impl OutputLine for End {
 
     ghost LONGEST = { 32 };
 
-    const LONGEST: usize = 32;
+    const LONGEST: usize = LONGEST;
 
     fn put(&self, out: &mut Output<'_>) {
         out.word(b"(end)\n");
@@ -81,7 +79,7 @@ impl OutputLine for GivenNode {
 
     ghost LONGEST = { 400 };
 
-    const LONGEST: usize = 400;
+    const LONGEST: usize = LONGEST_NODE;
 
     #[tactic(auto, using(crate::proofs::Widths::width_byte))]
     fn put(&self, out: &mut Output<'_>) {
@@ -107,13 +105,15 @@ impl OutputLine for GivenRoute {
 
     ghost LONGEST = { 32 };
 
-    const LONGEST: usize = 32;
+    const LONGEST: usize = LONGEST;
 
     #[tactic(auto, using(crate::proofs::Widths::width_three), unfolding(forms::specs::Text::text, forms::specs::Text::list_text))]
     fn put(&self, out: &mut Output<'_>) {
-        out.line(
+        out.three(
             b"(route",
-            &[self.at as u64, self.destination as u64, self.next as u64],
+            self.at as u64,
+            self.destination as u64,
+            self.next as u64,
         );
     }
 }

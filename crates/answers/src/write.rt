@@ -6,7 +6,7 @@ ghost use Rattle.answers.specs.Put.{Adds, Written};
 
 use crate::line::OutputLine;
 use crate::put::Output;
-use crate::room::has_room;
+use crate::room::{LONGEST, has_room};
 use calculus::answer::{Answer, Refusal};
 use calculus::number::ItemNumber;
 
@@ -48,21 +48,21 @@ impl OutputLine for Result<Answer, Refusal> {
 
     ghost LONGEST = { 32 };
 
-    const LONGEST: usize = 32;
+    const LONGEST: usize = LONGEST;
 
     #[tactic(auto, using(crate::proofs::Widths::width_one, crate::proofs::Widths::width_two), unfolding(forms::specs::Answer::answer_text))]
     fn put(&self, out: &mut Output<'_>) {
         match *self {
             Ok(Answer::Ok) => out.word(b"(ok)\n"),
-            Ok(Answer::Made(item)) => out.line(b"(made", &[item.0 as u64]),
+            Ok(Answer::Made(item)) => out.one(b"(made", item.0 as u64),
             Ok(Answer::MadeByDefault(item)) => out.made_by_default(item),
-            Ok(Answer::MadeTwo(item, next)) => out.line(b"(made", &[item.0 as u64, next.0 as u64]),
-            Ok(Answer::Lost(loss)) => out.line(b"(lost", &[u8::from(loss) as u64]),
+            Ok(Answer::MadeTwo(item, next)) => out.two(b"(made", item.0 as u64, next.0 as u64),
+            Ok(Answer::Lost(loss)) => out.one(b"(lost", u8::from(loss) as u64),
             Ok(Answer::Denied) => out.word(b"(denied)\n"),
             Ok(Answer::Opened) => out.word(b"(opened)\n"),
-            Ok(Answer::Delivered(tag)) => out.line(b"(delivered", &[tag as u64]),
+            Ok(Answer::Delivered(tag)) => out.one(b"(delivered", tag as u64),
             Ok(Answer::Closed) => out.word(b"(closed)\n"),
-            Err(refusal) => out.line(b"(no", &[u8::from(refusal) as u64]),
+            Err(refusal) => out.one(b"(no", u8::from(refusal) as u64),
         }
     }
 }

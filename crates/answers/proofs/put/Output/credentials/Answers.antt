@@ -6,17 +6,17 @@ use Rattle.answers.proofs.Credentials.{left_held, left_not_held, left_end}
 use Rattle.answers.proofs.put.Output.credentials.Goals.{then-is_held, else-is_held}
 use Rattle.answers.proofs.put.Output.credentials.Goals as goal
 
-pub spaced-requires : goal.spaced-requires
-spaced-requires c =
-    let x = left_held _ _ (search rules) c.if-is_held.true c.loop-n.invariant in
+pub numbered-requires : goal.numbered-requires
+numbered-requires c =
+    let x = left_held _ _ (search rules) (search rules) c.loop-n.invariant in
     let e = c.word.ensures in
     omega (arith, c.requires, credentials_width c.args.held.now (search rules), e.put.place, e.size, simp length-append at x.place, x.size)
 
 pub loop-n-preserved : goal.loop-n-preserved
 loop-n-preserved c =
     elim c.if-is_held.branch [
-      | then-is_held w ↦ rw w.self-is (left_part _ w.spaced.ensures (left_held _ _ (search rules) w.if-is_held.true c.loop-n.invariant))
-      | else-is_held w ↦ rw w.self-is (left_not_held _ _ (search rules) w.if-is_held.false c.loop-n.invariant)
+      | then-is_held w ↦ rw w.self-is (left_part _ w.numbered.ensures (left_held _ _ (search rules) (search rules) c.loop-n.invariant))
+      | else-is_held w ↦ rw w.self-is (left_not_held _ _ (search rules) (search rules) c.loop-n.invariant)
     ]
 
 pub word-requires-2 : goal.word-requires-2

@@ -5,7 +5,8 @@ use Rattle.answers.proofs.put.Output.word.Goals as goal
 
 pub returns : goal.returns
 returns c = record {
-  put = put_copied c.args.self.now.out.now c.args.word.now _ c.args.self.now.at _ c.requires c.copy_from_slice.ensures.after (omega arith);
+  put = put_copied c.args.self.now.out.now c.args.word.now _ c.args.self.now.at _ _
+      c.requires c.copy_from_slice.ensures.after (omega arith) (omega arith);
   size = omega arith;
   same = refl;
 }

@@ -8,4 +8,4 @@ unfolding association_line
 returns-clause-added c =
     adds_append c.word.ensures
     (adds_append c.number.ensures
-    (adds_append (rw (← c.direction_word.ensures) c.word-2.ensures) (adds_append c.line.ensures adds_none)))
+    (adds_append (rw (← c.direction_word.ensures) c.word-2.ensures) (adds_append c.three.ensures adds_none)))
