@@ -16,7 +16,7 @@ const CASES: [&str; 2] = ["call_cases", "form_cases"];
 /// nothing, and nobody outside can lend them bytes: no public function takes any, and of the file `PUT` only a type is public.
 const WRITERS: [&str; 2] = ["answers", "reports"];
 const PUT: &str = "answers/src/put.rt";
-const EXPORTS: [&str; 3] = ["pub use ", "pub fn byte(", "pub fn word("];
+const EXPORTS: [&str; 3] = ["pub use ", "pub fn number(", "pub fn word("];
 
 /// What an array holds, where that shows that it holds no bytes.
 const HELD: [&str; 11] =
@@ -67,8 +67,9 @@ const BYTES: [&str; 2] = ["mut [u8]", "Output"];
 
 /// What the source has of these, by crate.
 const NAMED: &[(&str, &str)] = &[
-    // the two places that write bytes of a call's answer: a digit, and a word, which is a constant
-    ("answers", "self.out[self.at] ="),
+    // the places that write bytes of a call's answer: a digit, and a word, which is a constant
+    ("answers", "out[at] ="),
+    ("answers", "out[last] ="),
     ("answers", ".copy_from_slice"),
     // the output with its place, and what a line is made of: no bytes
     ("answers", "pub struct"),
@@ -211,8 +212,8 @@ const NAMED: &[(&str, &str)] = &[
     ("simulator", "&mut s.network"),
     ("simulator", "&mut parts[at]"),
     ("simulator", "&mut part"),
-    ("simulator", "&mut state"),
-    ("simulator", "&mut state"),
+    ("simulator", "&mut s"),
+    ("simulator", "&mut s"),
     ("simulator", "&mut state"),
     ("sessions", "*t"),
     ("sessions", "*blank"),
@@ -550,11 +551,11 @@ fn a_buffer_put_in_is_found() {
         ),
         // a way for others to have bytes copied
         ("answers/src/write.rt", "// Writes", "pub fn copy(out: &mut [u8], s: &[u8]) {}", "fn copy"),
-        ("answers/src/put.rt", "    // One byte.", "pub fn byte(&mut self, byte: u8) {}", "pub fn byte("),
-        ("answers/src/put.rt", "    // One byte.", "pub fn raw(&mut self, b: u8) { self.byte(b); }", "pub fn"),
-        ("answers/src/put.rt", "    // One byte.", "pub fn number(&mut self, n: u64) {}", "pub fn"),
+        ("answers/src/put.rt", "    // `n` in decimal.", "pub fn number(&mut self, n: u64) {}", "pub fn number("),
+        ("answers/src/put.rt", "    // `n` in decimal.", "pub fn raw(&mut self, b: u8) { self.out[self.at] = b; }", "pub fn"),
+        ("answers/src/put.rt", "    // `n` in decimal.", "pub fn number(&mut self, n: u64) {}", "pub fn"),
         ("answers/src/lib.rt", "pub mod write;", "pub use crate::put::Output;", "pub use "),
-        ("answers/src/put.rt", "    // One byte.", "pub fn copy(&mut self, s: &[u8]) {}", "fn copy"),
+        ("answers/src/put.rt", "    // `n` in decimal.", "pub fn copy(&mut self, s: &[u8]) {}", "fn copy"),
     ];
     for (path, before, line, expected) in planted {
         let mut sources = searched();
