@@ -140,13 +140,16 @@ const NAMED: &[(&str, &str)] = &[
     ("join", "str::from_utf8"),
     ("join", ".arg"),
     ("join", ".write_all"),
-    // a program's input, read into the slice that it lends
+    // a program's input, read into the slice that it lends, with zeros behind it
     ("inputs", "&mut buffer[size..]"),
     ("inputs", "std::io::self"),
     ("inputs", "std::io::Read"),
     ("inputs", "Read"),
     ("inputs", "io::Result"),
+    ("inputs", "io::Result"),
     ("inputs", ".read"),
+    ("inputs", ".fill"),
+    ("inputs", ".fill"),
     // the next hops: numbers of nodes, whose digits a report writes
     ("calculus", "[Option<u8>; 1056]"),
     // a table of the network, of its nodes or of its next hops

@@ -39,7 +39,7 @@ fn holds_name(s: Option<Slot>, e: u8) -> bool
 // ---- sixteen places
 
 // The first free place.
-fn vacancy(items: &[Option<Slot>; 16]) -> Option<usize>
+pub fn vacancy(items: &[Option<Slot>; 16]) -> Option<usize>
     ensures { result ≡ position is_none items.now }
 {
     items.iter().position(|s| s.is_none())
@@ -53,7 +53,7 @@ fn place_of(items: &[Option<Slot>; 16], k: ItemNumber) -> Option<usize>
 }
 
 // The first place with the wait.
-fn wait_place(items: &[Option<Slot>; 16], w: Wait) -> Option<usize>
+pub fn wait_place(items: &[Option<Slot>; 16], w: Wait) -> Option<usize>
     ensures { result ≡ position (spec.of_item (spec.is_that_wait w)) items.now }
 {
     items.iter().position(|s| holds_wait(*s, w))
