@@ -5,9 +5,9 @@ use Prim.Native.Nat.{ℕ, ◌+◌, ◌≤◌}
 use native.Mathlib.Omega.{arith}
 use borrow.Author.Tests.{le-leb}
 use lib.ListN.{length}
-use Rattle.answers.specs.Write.{Writes}
+use Rattle.answers.specs.Write.{Writes, Written}
 use Rattle.answers.specs.declared.put.Output.{Output}
-use Rattle.answers.specs.Put.{Put, Adds, Written}
+use Rattle.answers.specs.Put.{Put, Adds}
 
 module _ {room : ℕ} {l text m : List ℕ} {at p : ℕ} (h : at + room ≤ length l) where
   -- what a caller that knows of the room knows

@@ -1,8 +1,8 @@
 // Lines written straight into the caller's slice, where there is room for them; and those of answers and refusals.
 ghost use Rattle.std.specs.Prelude.{ℕ, List, ◌+◌, ◌≤◌, length};
 ghost use Rattle.forms.specs.Answer.{made_by_default_line, answer_text};
-ghost use Rattle.answers.specs.Write.{Writes};
-ghost use Rattle.answers.specs.Put.{Adds, Written};
+ghost use Rattle.answers.specs.Write.{Writes, Written};
+ghost use Rattle.answers.specs.Put.{Adds};
 
 use crate::line::OutputLine;
 use crate::put::Output;
