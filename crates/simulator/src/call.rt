@@ -21,7 +21,7 @@ pub struct Reply {
 // Answers `line`, the bytes before its newline, with lines at the front of `out`; the other bytes of `out` stay. Refusal 0
 // where `out` has fewer than 65,536 bytes. A refused call leaves the state as it was.
 #[tactic(auto, unfolding(model::specs::Calls::answered))]
-pub fn call(mut s: State, line: &[u8], out: &mut [u8]) -> Reply
+pub fn call(s: State, line: &[u8], out: &mut [u8]) -> Reply
     ensures { Replies out.old (calls.answered s line.now (length out.old)) out.new result }
 {
     if out.len() < 65536 {
@@ -33,11 +33,12 @@ pub fn call(mut s: State, line: &[u8], out: &mut [u8]) -> Reply
     }
     let asked = read(line);
     let session = session_of(asked);
-    let mut part = load(&s, session);
-    let (written, status) = answer_line(&mut s, &mut part, asked, out, 0);
-    store(&mut s, session, &part);
+    let mut state = s;
+    let mut part = load(&state, session);
+    let (written, status) = answer_line(&mut state, &mut part, asked, out, 0);
+    store(&mut state, session, &part);
     Reply {
-        state: s,
+        state,
         written,
         status,
     }
