@@ -27,7 +27,7 @@ const PLAIN: [&str; 17] = [
     "Clone", "Copy", "Drop", "Eq", "Err", "Error", "Fn", "From", "Model", "None", "Ok", "Option", "PartialEq", "Result",
     "Self", "Some", "TryFrom",
 ];
-const PLAIN_METHODS: [&str; 30] = [
+const PLAIN_METHODS: [&str; 29] = [
     "all",
     "and_then",
     "any",
@@ -45,7 +45,6 @@ const PLAIN_METHODS: [&str; 30] = [
     "is_some_and",
     "iter",
     "len",
-    "map",
     "map_or",
     "min",
     "ok",
@@ -70,7 +69,8 @@ const NAMED: &[(&str, &str)] = &[
     // the places that write bytes of a call's answer: a digit, and a word, which is a constant
     ("answers", "out[at] ="),
     ("answers", "out[last] ="),
-    ("answers", ".copy_from_slice"),
+    ("answers", "self.out[self.at] ="),
+    ("answers", "*byte"),
     // the output with its place, and what a line is made of: no bytes
     ("answers", "pub struct"),
     ("answers", "pub out"),
@@ -224,6 +224,11 @@ const NAMED: &[(&str, &str)] = &[
     ("turns", "*opened"),
     ("turns", "*opened"),
     ("turns", "*opened"),
+    // what is made of an answer, of a header's peer, and of how much of a file was read: a part of the buffer
+    ("simulator", ".map"),
+    ("forwarding", ".map"),
+    ("join", ".map"),
+    ("join", ".map"),
     // a type that is seen as the number that it holds
     ("calculus", "std::marker::Model"),
 ];
@@ -497,11 +502,11 @@ fn a_buffer_put_in_is_found() {
     let planted = [
         // a local array, also one that does not show what it holds, and one of a byte string
         ("answers/src/write.rt", "        match *self {", "let mut line = [0u8; 32];", "[0u8; 32]"),
-        ("answers/src/put.rt", "        self.at = next;", "let line = [last];", "[last]"),
-        ("answers/src/put.rt", "        self.at = next;", "let mut line = [None; 400];", "[None; 400]"),
+        ("answers/src/put.rt", "        self.at += 1;", "let line = [last];", "[last]"),
+        ("answers/src/put.rt", "        self.at += 1;", "let mut line = [None; 400];", "[None; 400]"),
         (
             "answers/src/put.rt",
-            "        self.at = next;",
+            "        self.at += 1;",
             "let line = [next as u64, word[0] as u64];",
             "[next as u64, word[0] as u64]",
         ),
@@ -552,6 +557,7 @@ fn a_buffer_put_in_is_found() {
             "fn mark(out: &mut Output<'_>) { out.out[0] = 40; }",
             "out.out[0] =",
         ),
+        ("simulator/src/call.rt", "    let asked = read(line);", "let line = b\"(made 1)\".map(|b| b);", ".map"),
         // a way for others to have bytes copied
         ("answers/src/write.rt", "// Writes", "pub fn copy(out: &mut [u8], s: &[u8]) {}", "fn copy"),
         ("answers/src/put.rt", "    // `n` in decimal.", "pub fn number(&mut self, n: u64) {}", "pub fn number("),

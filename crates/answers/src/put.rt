@@ -34,9 +34,18 @@ impl<'a> Output<'a> {
         requires { self.old.at + length word.now ≤ length self.old.out.now }
         ensures { Adds self.old word.now self.new }
     {
-        let next = self.at + word.len();
-        self.out[self.at..next].copy_from_slice(word);
-        self.at = next;
+        for byte in word {
+            self.byte(*byte);
+        }
+    }
+
+    // One byte.
+    fn byte(&mut self, byte: u8)
+        requires { self.old.at < length self.old.out.now }
+        ensures { Adds self.old (byte ∷ []) self.new }
+    {
+        self.out[self.at] = byte;
+        self.at += 1;
     }
 
     // `n` in decimal.
