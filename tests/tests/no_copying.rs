@@ -106,6 +106,7 @@ const NAMED: &[(&str, &str)] = &[
     ("simulate", ".stdin"),
     ("simulate", ".read"),
     ("simulate", ".write_all"),
+    ("simulate", ".is_err"),
     // a join's lines: parts of the two files, copied to the caller's slice
     ("joins", ".copy_from_slice"),
     // where the next line of each of the two files starts

@@ -26,8 +26,8 @@ fn run(rt: &HostRuntime, input: &mut [u8], out: &mut [u8]) {
             0
         };
         progress = advance(progress, input, got, out);
-        let is_written = rt.write_all(&out[..progress.written]).is_ok();
-        if progress.over || !is_written {
+        let written = rt.write_all(&out[..progress.written]);
+        if written.is_err() || progress.over {
             return;
         }
     }
