@@ -16,7 +16,7 @@ const CASES: [&str; 2] = ["call_cases", "form_cases"];
 /// nothing, and nobody outside can lend them bytes: no public function takes any, and of the file `PUT` only a type is public.
 const WRITERS: [&str; 2] = ["answers", "reports"];
 const PUT: &str = "answers/src/put.rt";
-const EXPORTS: [&str; 3] = ["pub use ", "pub fn number(", "pub fn word("];
+const EXPORTS: [&str; 3] = ["pub use ", "pub fn byte(", "pub fn word("];
 
 /// What an array holds, where that shows that it holds no bytes.
 const HELD: [&str; 11] =
@@ -561,11 +561,11 @@ fn a_buffer_put_in_is_found() {
         ("simulator/src/call.rt", "    let asked = read(line);", "let line = b\"(made 1)\".map(|b| b);", ".map"),
         // a way for others to have bytes copied
         ("answers/src/write.rt", "// Writes", "pub fn copy(out: &mut [u8], s: &[u8]) {}", "fn copy"),
-        ("answers/src/put.rt", "    // `n` in decimal.", "pub fn number(&mut self, n: u64) {}", "pub fn number("),
-        ("answers/src/put.rt", "    // `n` in decimal.", "pub fn raw(&mut self, b: u8) { self.out[self.at] = b; }", "pub fn"),
+        ("answers/src/put.rt", "    // One byte.", "pub fn byte(&mut self, byte: u8) {}", "pub fn byte("),
+        ("answers/src/put.rt", "    // One byte.", "pub fn raw(&mut self, b: u8) { self.byte(b); }", "pub fn"),
         ("answers/src/put.rt", "    // `n` in decimal.", "pub fn number(&mut self, n: u64) {}", "pub fn"),
         ("answers/src/lib.rt", "pub mod write;", "pub use crate::put::Output;", "pub use "),
-        ("answers/src/put.rt", "    // `n` in decimal.", "pub fn copy(&mut self, s: &[u8]) {}", "fn copy"),
+        ("answers/src/put.rt", "    // One byte.", "pub fn copy(&mut self, s: &[u8]) {}", "fn copy"),
     ];
     for (path, before, line, expected) in planted {
         let mut sources = searched();
